@@ -1,0 +1,173 @@
+-- The table of refusals: when no number fits, when a number does, and the smaller of two numbers. Assumes nothing.
+use mathlib.Core.Path.{_≡_, refl, sym, ap, ap₂, _∙_, subst}
+use mathlib.Core.Bool.{Bool, true, false, cond, not, _||_}
+use mathlib.Core.Logic.{_↔_, _⊎_, inl, inr, ⊎-elim}
+use mathlib.Core.List.{List, [], _∷_}
+use Prim.Native.Nat.{ℕ, zero, suc, _+_, _*_, _≤_, _<_}
+use native.Mathlib.Nat.{suc-ne-zero, not-suc-le-zero, le-of-suc-le-suc, suc-inj}
+use native.Mathlib.Decide.{ℕ-discrete}
+use native.Mathlib.Omega.{arith}
+use borrow.Author.Tests.{lt-ltb, le-ltb, ltb-false, eqb-true, not-false}
+use lib.Arith.{lt-of-le-ne}
+use lib.Dec.{ltb, leb, eqb}
+use lib.ListN.{length, getD, drop}
+use Rattle.encoding.specs.Words.{bit}
+use Rattle.encoding.specs.Refusals.{faultFrom, fault, joined, least, badLengths, doneOr, leftOr}
+use Rattle.encoding.specs.declared.Answer.the-variants.{Refused}
+use Rattle.encoding.proofs.Scan.{none-of}
+
+-- ---- no number fits: each test fails
+
+pub pass : (k : ℕ) (t : Bool) (ts : List Bool) → faultFrom (suc k) (t ∷ ts) ≡ 0 → (t ≡ false) × (faultFrom (suc (suc k)) ts ≡ 0)
+unfolding faultFrom
+pass k true ts e = absurd (suc-ne-zero k e)
+pass k false ts e = (refl, e)
+
+-- ---- a number fits: its test is the first that holds
+
+none-before : (k : ℕ) (ts : List Bool) → faultFrom (suc k) ts ≡ 0 → (j : ℕ) → getD ts j false ≡ false
+unfolding faultFrom
+none-before k [] e j = refl
+none-before k (t ∷ ts) e zero = pass k t ts e .0
+none-before k (t ∷ ts) e (suc j) = none-before (suc k) ts (pass k t ts e .1) j
+
+all-none : (k : ℕ) (ts : List Bool) → ((j : ℕ) → getD ts j false ≡ false) → faultFrom (suc k) ts ≡ 0
+unfolding faultFrom
+all-none k [] h = refl
+all-none k (t ∷ ts) h = ap (λ (b : Bool). cond b (suc k) (faultFrom (suc (suc k)) ts)) (h 0) ∙ all-none (suc k) ts (λ j. h (suc j))
+
+-- nothing is refused exactly when no test holds
+pub refused-never : (ts : List Bool) → (fault ts ≡ 0) ↔ ((j : ℕ) → getD ts j false ≡ false)
+refused-never ts = (none-before 0 ts, all-none 0 ts)
+
+-- test number j of the list holds, and none before it
+pub record First (ts : List Bool) (j : ℕ) : Type 0 where
+  pub holds : getD ts j false ≡ true
+  pub before : (i : ℕ) → i < j → getD ts i false ≡ false
+
+first-at : (k : ℕ) (ts : List Bool) (j : ℕ) → First ts j → faultFrom (suc k) ts ≡ suc (k + j)
+unfolding faultFrom
+first-at k [] j f = absurd (omega (arith, ap bit (f .holds)))
+first-at k (t ∷ ts) zero f = ap (λ (b : Bool). cond b (suc k) (faultFrom (suc (suc k)) ts)) (f .holds) ∙ omega arith
+first-at k (t ∷ ts) (suc j) f =
+    ap (λ (b : Bool). cond b (suc k) (faultFrom (suc (suc k)) ts)) (f .before 0 (omega arith))
+    ∙ first-at (suc k) ts j (record { holds = f .holds; before = λ i h. f .before (suc i) (omega arith) })
+    ∙ omega arith
+
+-- a number that fits is no smaller than the first
+low : (k : ℕ) (ts : List Bool) (v : ℕ) → faultFrom (suc k) ts ≡ suc v → k ≤ v
+unfolding faultFrom
+low k [] v e = absurd (suc-ne-zero v (sym e))
+low k (true ∷ ts) v e = omega arith
+low k (false ∷ ts) v e = omega (arith, low (suc k) ts v e)
+
+at-first : (k : ℕ) (ts : List Bool) (j : ℕ) → faultFrom (suc k) ts ≡ suc (k + j) → First ts j
+unfolding faultFrom
+at-first k [] j e = absurd (suc-ne-zero (k + j) (sym e))
+at-first k (true ∷ ts) zero e = record { holds = refl; before = λ i h. absurd (not-suc-le-zero h) }
+at-first k (true ∷ ts) (suc j) e = absurd (omega arith)
+at-first k (false ∷ ts) zero e = absurd (omega (arith, low (suc k) ts (k + 0) e))
+at-first k (false ∷ ts) (suc j) e = go (at-first (suc k) ts j (e ∙ omega arith))
+  where
+    go : First ts j → First (false ∷ ts) (suc j)
+    go f = record { holds = f .holds; before = at }
+      where
+        at : (i : ℕ) → i < suc j → getD (false ∷ ts) i false ≡ false
+        at zero h = refl
+        at (suc i) h = f .before i (le-of-suc-le-suc h)
+
+-- the number j + 1 of the table is given exactly when its test holds and none before it
+pub refused-exactly : (ts : List Bool) (j : ℕ) → (fault ts ≡ suc j) ↔ First ts j
+refused-exactly ts j = (λ e. at-first 0 ts j (e ∙ omega arith), λ f. first-at 0 ts j f ∙ omega arith)
+
+-- ---- the smaller number
+
+pub least-left : (a b : ℕ) → (a ≡ 0 → ⊥) → b ≡ 0 → a ≡ least a b
+unfolding least
+least-left zero b h e = absurd (h refl)
+least-left (suc a) zero h e = refl
+least-left (suc a) (suc b) h e = absurd (omega arith)
+
+pub least-less : (a b : ℕ) → (a ≡ 0 → ⊥) → (b ≡ 0 → ⊥) → a < b → a ≡ least a b
+unfolding least
+least-less zero b h g l = absurd (h refl)
+least-less (suc a) zero h g l = absurd (g refl)
+least-less (suc a) (suc b) h g l = simp (lt-ltb _ _ l)
+
+pub least-more : (a b : ℕ) → (a ≡ 0 → ⊥) → (b ≡ 0 → ⊥) → b ≤ a → b ≡ least a b
+unfolding least
+least-more zero b h g l = absurd (h refl)
+least-more (suc a) zero h g l = absurd (g refl)
+least-more (suc a) (suc b) h g l = simp (le-ltb _ _ l)
+
+pub least-zero : (a : ℕ) → least a 0 ≡ a
+unfolding least
+least-zero zero = refl
+least-zero (suc a) = refl
+
+least-none-left : (v : ℕ) → least 0 v ≡ v
+unfolding least
+least-none-left v = refl
+
+least-comm-less : (a b : ℕ) → (a ≡ 0 → ⊥) → (b ≡ 0) ⊎ (a ≤ b) → least a b ≡ a
+least-comm-less a b h (inl e) = sym (least-left a b h e)
+least-comm-less a b h (inr l) = go (ℕ-discrete a b)
+  where
+    go : Dec (a ≡ b) → least a b ≡ a
+    go (yes e) = sym (least-more a b h (λ z. h (e ∙ z)) (omega arith)) ∙ sym e
+    go (no ne) = sym (least-less a b h (λ z. h (omega arith)) (lt-of-le-ne l ne))
+
+least-comm-more : (a b : ℕ) → (b ≡ 0 → ⊥) → (a ≡ 0) ⊎ (b ≤ a) → least a b ≡ b
+unfolding least
+least-comm-more a b h (inl e) = ap (λ (k : ℕ). least k b) e
+least-comm-more zero b h (inr l) = refl
+least-comm-more (suc a) b h (inr l) = sym (least-more (suc a) b (λ z. suc-ne-zero a z) h l)
+
+none-or-high : (k : ℕ) (ts : List Bool) → (faultFrom (suc k) ts ≡ 0) ⊎ (suc k ≤ faultFrom (suc k) ts)
+unfolding faultFrom
+none-or-high k [] = inl refl
+none-or-high k (true ∷ ts) = inr (omega arith)
+none-or-high k (false ∷ ts) = ⊎-elim inl (λ l. inr (omega arith)) (none-or-high (suc k) ts)
+
+next : (k v : ℕ) → (v ≡ 0) ⊎ (suc (suc k) ≤ v) → (v ≡ 0) ⊎ (suc k ≤ v)
+next k v d = ⊎-elim inl (λ l. inr (omega arith)) d
+
+joined-from : (k : ℕ) (ts us : List Bool) → least (faultFrom (suc k) ts) (faultFrom (suc k) us) ≡ faultFrom (suc k) (joined ts us)
+unfolding faultFrom joined
+joined-from k [] us = least-none-left (faultFrom (suc k) us)
+joined-from k (t ∷ ts) [] = least-zero (faultFrom (suc k) (t ∷ ts))
+joined-from k (true ∷ ts) (true ∷ us) = least-comm-less (suc k) (suc k) (λ z. suc-ne-zero k z) (inr (omega arith))
+joined-from k (true ∷ ts) (false ∷ us) = least-comm-less (suc k) (faultFrom (suc (suc k)) us) (λ z. suc-ne-zero k z) (next k _ (none-or-high (suc k) us))
+joined-from k (false ∷ ts) (true ∷ us) = least-comm-more (faultFrom (suc (suc k)) ts) (suc k) (λ z. suc-ne-zero k z) (next k _ (none-or-high (suc k) ts))
+joined-from k (false ∷ ts) (false ∷ us) = joined-from (suc k) ts us
+
+-- the first number of two parts of a call is the smaller of theirs
+pub joined-fault : (ts us : List Bool) → least (fault ts) (fault us) ≡ fault (joined ts us)
+joined-fault = joined-from 0
+
+pub least-none : (a b : ℕ) → least a b ≡ 0 → (a ≡ 0) × (b ≡ 0)
+unfolding least
+least-none zero b e = (refl, e)
+least-none (suc a) zero e = absurd (suc-ne-zero a e)
+least-none (suc a) (suc b) e = absurd (go (ltb (suc a) (suc b)) e)
+  where
+    go : (t : Bool) → cond t (suc a) (suc b) ≡ 0 → ⊥
+    go true e = suc-ne-zero a e
+    go false e = suc-ne-zero b e
+
+-- ---- what a refusal comes to
+
+pub refused : (k : ℕ) → (k ≡ 0 → ⊥) → Refused k ≡ doneOr k
+refused zero h = absurd (h refl)
+refused (suc k) h = refl
+
+pub kept : {A : Type 0} (k : ℕ) (old new : A) → (k ≡ 0 → ⊥) → old ≡ leftOr k old new
+kept zero old new h = absurd (h refl)
+kept (suc k) old new h = refl
+
+-- ---- lengths
+
+pub lengths-fit : (m w x z : ℕ) → badLengths m w x z ≡ false → (x ≡ m * w) × (z ≡ m * w)
+lengths-fit m w x z e =
+    let p = none-of (not (eqb x (m * w))) (not (eqb z (m * w))) e in
+    (eqb-true x (m * w) (not-false _ (p .0)), eqb-true z (m * w) (not-false _ (p .1)))

@@ -1,0 +1,13 @@
+pub mod Odd
+pub mod WordLaws
+pub mod Padding
+pub mod Reading
+pub mod Parts
+pub mod BitLaws
+pub mod OneBit
+pub mod Scan
+pub mod Spare
+pub mod Faults
+pub mod Memory
+pub mod Ladder
+pub mod Qubits

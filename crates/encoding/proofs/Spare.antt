@@ -1,0 +1,190 @@
+-- The bits at n and above: only the last word of a row has any. Assumes nothing.
+use mathlib.Core.Path.{_≡_, refl, sym, ap, ap₂, _∙_, subst}
+use mathlib.Core.Bool.{Bool, true, false, not, _||_, _&&_}
+use mathlib.Core.List.{List, [], _∷_, _++_, append-nil, map, map-append}
+use Prim.Native.Nat.{ℕ, zero, suc, _+_, _-_, _*_, _/_, _%_, _^_, _≤_, _<_, zero-le, suc-le-suc}
+use native.Mathlib.Nat.{pow-suc, div-one, not-suc-le-zero, le-of-suc-le-suc, suc-inj, suc-mul, zero-lt-suc, sub-zero, add-sub-cancel-left}
+use native.Mathlib.Numerals.{one-add, add-one}
+use native.Mathlib.Decide.{ℕ-discrete}
+use native.Mathlib.Omega.{arith}
+use borrow.Author.Tests.{ne-eqb, eq-eqb}
+use lib.Arith.{lt-one, lt-of-le-ne}
+use lib.Bits.{bitOr, or-zero-l, or-shr}
+use lib.Dec.{eqb}
+use lib.Pow.{shr-shr, shr-lt}
+use lib.ListN.{length, getD, take, drop, drop-of-length-le}
+use lib.Seq.{drop-append-add, drop-append-le}
+use Rattle.pauli.specs.Pauli.{Pauli, ofBits, hasX, hasZ}
+use Rattle.pauli.specs.declared.PauliMatrix.the-variants.{I, X, Y, Z}
+use Rattle.pauli.proofs.RowLaws.{hasX-of, hasZ-of}
+use Rattle.encoding.specs.Words.{odd, bit, word, bits, unpack, unbits}
+use Rattle.encoding.proofs.Padding.{AllI}
+use Rattle.encoding.proofs.Scan.{none-of}
+use Rattle.encoding.proofs.Odd.{or-odd, or-half}
+use Rattle.encoding.proofs.WordLaws.{back, half-lt, length-word, length-bits}
+use Rattle.encoding.proofs.Reading.{length-unpack}
+use Rattle.encoding.specs.Set.{row}
+use Rattle.encoding.proofs.Parts.{row-long, getD-part}
+use Rattle.encoding.specs.Limits.{wordsOf}
+use Rattle.encoding.specs.Refusals.{someBelow, some, isOn}
+
+-- ---- some number below m
+
+module _ (f : ℕ → Bool) where
+  pub any-more : (r : ℕ) → someBelow r f ≡ false → f r ≡ false → someBelow (r + 1) f ≡ false
+  unfolding someBelow
+  any-more r e h = rw (add-one r, e, h)
+
+  or-true : (a b : Bool) → b ≡ true → (a || b) ≡ true
+  or-true true b e = refl
+  or-true false b e = e
+
+  or-left : (a b : Bool) → a ≡ true → (a || b) ≡ true
+  or-left true b e = refl
+  or-left false b e = absurd (omega (arith, ap bit e))
+
+  pub any-hit : (m r : ℕ) → r < m → f r ≡ true → someBelow m f ≡ true
+  unfolding someBelow
+  any-hit zero r h e = absurd (not-suc-le-zero h)
+  any-hit (suc m) r h e = go (ℕ-discrete r m) (λ ne. any-hit m r (lt-of-le-ne (le-of-suc-le-suc h) ne) e)
+    where
+      go : Dec (r ≡ m) → ((r ≡ m → ⊥) → someBelow m f ≡ true) → (someBelow m f || f m) ≡ true
+      go (yes q) ih = or-true (someBelow m f) (f m) (ap f (sym q) ∙ e)
+      go (no q) ih = or-left (someBelow m f) (f m) (ih q)
+
+  pub any-none : (m r : ℕ) → someBelow m f ≡ false → r < m → f r ≡ false
+  unfolding someBelow
+  any-none zero r e h = absurd (not-suc-le-zero h)
+  any-none (suc m) r e h = go (ℕ-discrete r m) (λ ne. any-none m r (none-of (someBelow m f) (f m) e .0) (lt-of-le-ne (le-of-suc-le-suc h) ne))
+    where
+      go : Dec (r ≡ m) → ((r ≡ m → ⊥) → f r ≡ false) → f r ≡ false
+      go (yes q) ih = ap f q ∙ none-of (someBelow m f) (f m) e .1
+      go (no q) ih = ih q
+
+-- ---- nothing but I
+
+pub off-all : (ps : List Pauli) → some isOn ps ≡ false → AllI ps
+unfolding some
+off-all [] e k = refl
+off-all (I ∷ ps) e zero = refl
+off-all (I ∷ ps) e (suc k) = off-all ps e k
+off-all (X ∷ ps) e k = absurd (omega (arith, ap bit e))
+off-all (Y ∷ ps) e k = absurd (omega (arith, ap bit e))
+off-all (Z ∷ ps) e k = absurd (omega (arith, ap bit e))
+
+-- ---- one pair of words
+
+nz : (h : ℕ) (b : Bool) → not (eqb (h * 2 + bit b) 0) ≡ (b || not (eqb h 0))
+nz h true = ap not (ne-eqb (h * 2 + 1) 0 (λ e. omega arith))
+nz zero false = refl
+nz (suc h) false = ap not (ne-eqb (suc h * 2 + 0) 0 (λ e. omega arith)) ∙ sym (ap not (ne-eqb (suc h) 0 (λ e. omega arith)))
+
+some-word : (d x z : ℕ) → x < 2 ^ d → z < 2 ^ d → some isOn (word d x z) ≡ not (eqb (bitOr x z) 0)
+unfolding some word
+some-word zero x z hx hz = sym (ap₂ (λ (a b : ℕ). not (eqb (bitOr a b) 0)) (lt-one hx) (lt-one hz))
+some-word (suc d) x z hx hz =
+    ap₂ _||_ (ap₂ _||_ (hasX-of (odd x) (odd z)) (hasZ-of (odd x) (odd z)) ∙ sym (or-odd x z))
+    (some-word d (x / 2) (z / 2) (half-lt d hx) (half-lt d hz) ∙ ap (λ (y : ℕ). not (eqb y 0)) (sym (or-half x z)))
+    ∙ sym (nz (bitOr x z / 2) (odd (bitOr x z)))
+    ∙ ap (λ (y : ℕ). not (eqb y 0)) (back (bitOr x z))
+
+drop-word : (k d x z : ℕ) → k ≤ d → drop k (word d x z) ≡ word (d - k) (x / 2 ^ k) (z / 2 ^ k)
+unfolding word
+drop-word zero d x z h = ap₂ (word d) (sym (div-one x)) (sym (div-one z)) ∙ ap (λ (e : ℕ). word e (x / 1) (z / 1)) (sym (sub-zero d))
+drop-word (suc k) zero x z h = absurd (not-suc-le-zero h)
+drop-word (suc k) (suc d) x z h =
+    let at : (y : ℕ) → y / 2 / 2 ^ k ≡ y / 2 ^ suc k = λ y. shr-shr y 1 k ∙ ap (λ (e : ℕ). y / 2 ^ e) (one-add k) in
+    let s : d - k ≡ suc d - suc k = omega arith in
+    drop-word k d (x / 2) (z / 2) (le-of-suc-le-suc h)
+    ∙ ap₂ (word (d - k)) (at x) (at z)
+    ∙ ap (λ (e : ℕ). word e (x / 2 ^ suc k) (z / 2 ^ suc k)) s
+
+-- the test on words
+pub above-is : (k x z : ℕ) → k < 64 → x < 2 ^ 64 → z < 2 ^ 64 → some isOn (drop k (word 64 x z)) ≡ not (eqb (bitOr x z / 2 ^ k) 0)
+above-is k x z h hx hz =
+    let e : (64 - k) + k ≡ 64 = omega arith in
+    let low : (y : ℕ) → y < 2 ^ 64 → y / 2 ^ k < 2 ^ (64 - k) = λ y l. shr-lt (64 - k) k (subst (λ (n : ℕ). y < 2 ^ n) (sym e) l) in
+    ap (some isOn) (drop-word k 64 x z (omega arith))
+    ∙ some-word (64 - k) (x / 2 ^ k) (z / 2 ^ k) (low x hx) (low z hz)
+    ∙ ap (λ (y : ℕ). not (eqb y 0)) (sym (or-shr x z k))
+
+-- ---- a row: the last word
+
+last-word : (j k : ℕ) (xs zs : List ℕ) → length xs ≡ suc j → length zs ≡ suc j → drop (j * 64 + k) (unpack xs zs) ≡ drop k (word 64 (getD xs j 0) (getD zs j 0))
+unfolding unpack
+last-word j k [] zs hx hz = absurd (omega arith)
+last-word j k (x ∷ xs) [] hx hz = absurd (omega arith)
+last-word zero k (x ∷ []) (z ∷ []) hx hz =
+    let e : 0 * 64 + k ≡ k = omega arith in
+    ap (drop (0 * 64 + k)) (append-nil (word 64 x z)) ∙ ap (λ (n : ℕ). drop n (word 64 x z)) e
+last-word zero k (x ∷ y ∷ xs) (z ∷ zs) hx hz = absurd (omega arith)
+last-word zero k (x ∷ []) (z ∷ y ∷ zs) hx hz = absurd (omega arith)
+last-word (suc j) k (x ∷ xs) (z ∷ zs) hx hz =
+    let e : suc j * 64 + k ≡ length (word 64 x z) + (j * 64 + k) = omega (arith, suc-mul j 64, length-word 64 x z) in
+    ap (λ (n : ℕ). drop n (word 64 x z ++ unpack xs zs)) e
+    ∙ drop-append-add (word 64 x z) (unpack xs zs) (j * 64 + k)
+    ∙ last-word j k xs zs (suc-inj hx) (suc-inj hz)
+
+module _ (n : ℕ) (xs zs : List ℕ) (hx : length xs ≡ wordsOf n) (hz : length zs ≡ wordsOf n) where
+  pub spare-none : n % 64 ≡ 0 → some isOn (drop n (unpack xs zs)) ≡ false
+  unfolding some
+  spare-none e =
+      let h : length (unpack xs zs) ≤ n = omega (arith, length-unpack xs zs (hz ∙ sym hx)) in
+      ap (some isOn) (drop-of-length-le (unpack xs zs) h)
+
+  pub spare-last : (n % 64 ≡ 0 → ⊥) → some isOn (drop n (unpack xs zs)) ≡ some isOn (drop (n % 64) (word 64 (getD xs (wordsOf n - 1) 0) (getD zs (wordsOf n - 1) 0)))
+  spare-last ne =
+      let p : 0 < n % 64 = lt-of-le-ne zero-le (λ (e : 0 ≡ n % 64). ne (sym e)) in
+      let e : n ≡ (wordsOf n - 1) * 64 + n % 64 = omega arith in
+      ap (λ (k : ℕ). some isOn (drop k (unpack xs zs))) e
+      ∙ ap (some isOn) (last-word (wordsOf n - 1) (n % 64) xs zs (hx ∙ omega arith) (hz ∙ omega arith))
+
+-- ---- the rows of a set
+
+pub any-never : (f : ℕ → Bool) (m : ℕ) → ((r : ℕ) → r < m → f r ≡ false) → someBelow m f ≡ false
+unfolding someBelow
+any-never f zero h = refl
+any-never f (suc m) h = ap₂ _||_ (any-never f m (λ r l. h r (omega arith))) (h m (omega arith))
+
+abbrev pub high : ℕ → ℕ → List ℕ → List ℕ → ℕ → Bool
+high n w xs zs r = some isOn (drop n (unpack (row w r xs) (row w r zs)))
+
+module _ (n m w : ℕ) (xs zs : List ℕ) (hw : w ≡ wordsOf n) (hx : length xs ≡ m * w) (hz : length zs ≡ m * w) where
+  pub rows-none : n % 64 ≡ 0 → someBelow m (high n w xs zs) ≡ false
+  rows-none e = any-never (high n w xs zs) m (λ r l. spare-none n (row w r xs) (row w r zs) (row-long m w r xs l hx ∙ hw) (row-long m w r zs l hz ∙ hw) e)
+
+  pub row-last : (r t : ℕ) → (n % 64 ≡ 0 → ⊥) → r < m → t ≡ r * w + (w - 1)
+      → some isOn (drop (n % 64) (word 64 (getD xs t 0) (getD zs t 0))) ≡ high n w xs zs r
+  row-last r t ne l et =
+      let p : 0 < n % 64 = lt-of-le-ne zero-le (λ (e : 0 ≡ n % 64). ne (sym e)) in
+      let i : w - 1 < w = omega arith in
+      let at : (l : List ℕ) → getD l t 0 ≡ getD (row w r l) (wordsOf n - 1) 0 =
+      λ l. ap (λ (k : ℕ). getD l k 0) et ∙ sym (getD-part (r * w) w l (w - 1) i) ∙ ap (λ (k : ℕ). getD (row w r l) (k - 1) 0) hw in
+      ap₂ (λ (x z : ℕ). some isOn (drop (n % 64) (word 64 x z))) (at xs) (at zs)
+      ∙ sym (spare-last n (row w r xs) (row w r zs) (row-long m w r xs l hx ∙ hw) (row-long m w r zs l hz ∙ hw) ne)
+
+-- ---- a basis state: its bits are those of a run of Ys
+
+some-map : {A : Type 0} (f : A → Bool) (n : ℕ) (l : List A) → some (λ (b : Bool). b) (drop n (map f l)) ≡ some f (drop n l)
+unfolding some
+some-map f zero [] = refl
+some-map f zero (a ∷ l) = ap (λ (b : Bool). f a || b) (some-map f zero l)
+some-map f (suc n) [] = refl
+some-map f (suc n) (a ∷ l) = some-map f n l
+
+on-both : (b : Bool) → isOn (ofBits b b) ≡ b
+on-both true = refl
+on-both false = refl
+
+bits-on : (d r : ℕ) → map isOn (word d r r) ≡ bits d r
+unfolding word bits
+bits-on zero r = refl
+bits-on (suc d) r = ap₂ (λ (b : Bool) (l : List Bool). b ∷ l) (on-both (odd r)) (bits-on d (r / 2))
+
+unbits-on : (st : List ℕ) → map isOn (unpack st st) ≡ unbits st
+unfolding unpack unbits
+unbits-on [] = refl
+unbits-on (r ∷ st) = map-append isOn (word 64 r r) (unpack st st) ∙ ap₂ (λ (u v : List Bool). u ++ v) (bits-on 64 r) (unbits-on st)
+
+pub state-spare : (n : ℕ) (st : List ℕ) → some (λ (b : Bool). b) (drop n (unbits st)) ≡ some isOn (drop n (unpack st st))
+state-spare n st = ap (λ (l : List Bool). some (λ (b : Bool). b) (drop n l)) (sym (unbits-on st)) ∙ some-map isOn n (unpack st st)

@@ -1,0 +1,19 @@
+use native.Mathlib.Omega.{arith}
+use mathlib.Core.Path.{_≡_, refl, sym, ap, _∙_}
+use Prim.Native.Nat.{ℕ, _+_, _*_, _-_, _/_, _<_, _≤_}
+use lib.ListN.{length, getD, drop, take, length-set}
+use borrow.Author.Needs.{needs}
+use Rattle.encoding.proofs.bad_lengths.Statement.{statement}
+use Rattle.encoding.proofs.bad_lengths.Tie as tie
+use Rattle.encoding.proofs.bad_lengths.Reads as reads
+use Rattle.encoding.proofs.bad_lengths.Lts as lts
+use Rattle.encoding.proofs.product.Reads as product-reads
+
+product-requires : tie.Need-product-requires
+product-requires c κs = search needs
+
+returns : tie.Need-returns
+returns c = rw (← (c .product .ensures)) (refl)
+
+pub bad-lengths-spec : {M : Type 1} → statement M
+bad-lengths-spec = tie.close (tie.spec product-requires returns)

@@ -1,0 +1,32 @@
+use native.Mathlib.Omega.{arith}
+use mathlib.Core.Path.{_≡_, refl, sym, ap, _∙_}
+use Prim.Native.Nat.{ℕ, _+_, _*_, _-_, _/_, _%_, _<_, _≤_}
+use lib.ListN.{length, getD, drop, take, length-set}
+use borrow.Author.Needs.{needs}
+use Rattle.encoding.specs.Words.{bitAt}
+use Rattle.encoding.proofs.Qubits.{no-bit}
+use Rattle.encoding.proofs.bit_in.Statement.{statement}
+use Rattle.encoding.proofs.bit_in.Tie as tie
+use Rattle.encoding.proofs.bit_in.Reads as reads
+use Rattle.encoding.proofs.bit_in.Lts as lts
+use Rattle.encoding.proofs.bit_of.Reads as bit-of-reads
+
+mul-bit-of : tie.Need-mul-bit-of
+mul-bit-of c = search needs
+
+shared-slice-read-bit-of : tie.Need-shared-slice-read-bit-of
+shared-slice-read-bit-of c = search needs
+
+bit-of-requires : tie.Need-bit-of-requires
+bit-of-requires c κs = search needs
+
+returns : tie.Need-returns
+unfolding bitAt
+returns c = c .bit-of .ensures
+
+returns-2 : tie.Need-returns-2
+returns-2 c = let a = c .before .before .args in sym (no-bit (a .x .now) (a .q / 64) (a .q % 64) (c .if1 .left))
+
+pub bit-in-spec : {M : Type 1} → statement M
+bit-in-spec =
+    tie.close (tie.spec mul-bit-of shared-slice-read-bit-of bit-of-requires returns returns-2)

@@ -1,0 +1,46 @@
+use native.Mathlib.Omega.{arith}
+use mathlib.Core.Path.{_≡_, refl, sym, ap, _∙_}
+use Prim.Native.Nat.{ℕ, _+_, _*_, _-_, _/_, _<_, _≤_}
+use lib.ListN.{length, getD, drop, take, length-set}
+use borrow.Author.Needs.{needs}
+use Rattle.encoding.specs.Set.{mem}
+use Rattle.encoding.proofs.Ladder.{out-1, out-2, out-3}
+use Rattle.encoding.proofs.out_fault.Statement.{statement}
+use Rattle.encoding.proofs.out_fault.Tie as tie
+use Rattle.encoding.proofs.out_fault.Reads as reads
+use Rattle.encoding.proofs.out_fault.Lts as lts
+use Rattle.encoding.proofs.bad_lengths.Reads as bad-lengths-reads
+use Rattle.encoding.proofs.pick.Reads as pick-reads
+use Rattle.encoding.proofs.words.Reads as words-reads
+
+returns : tie.Need-returns
+returns c =
+    let a = c .before .before .before .before .args in
+    out-1 (a .n) (a .m) (mem (a .x .now) (a .z .now) (a .p .now)) (c .if1 .taken)
+
+returns-2 : tie.Need-returns-2
+returns-2 c =
+    let a = c .before .before .before .before .before .args in
+    out-2 (a .n) (a .m) (mem (a .x .now) (a .z .now) (a .p .now)) (c .before .if1 .left) (c .if2 .taken)
+
+words-requires : tie.Need-words-requires
+words-requires c κs = search needs
+
+bad-lengths-requires : tie.Need-bad-lengths-requires
+bad-lengths-requires c κs = search needs
+
+pick-requires : tie.Need-pick-requires
+pick-requires c κs = search needs
+
+returns-3 : tie.Need-returns-3
+returns-3 c =
+    let b = c .before in
+    let w = b .before in
+    let e2 = w .before in
+    let a = e2 .before .before .before .before .before .args in
+    out-3 (a .n) (a .m) (mem (a .x .now) (a .z .now) (a .p .now)) (w .words .result) (b .bad-lengths .result) (c .pick .result) (e2 .before .if1 .left) (e2 .if2 .left) (w .words .ensures) (b .bad-lengths .ensures) (c .pick .ensures)
+
+pub out-fault-spec : {M : Type 1} → statement M
+out-fault-spec =
+    tie.close
+    (tie.spec returns returns-2 words-requires bad-lengths-requires pick-requires returns-3)

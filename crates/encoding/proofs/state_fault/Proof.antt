@@ -1,0 +1,73 @@
+use native.Mathlib.Omega.{arith}
+use mathlib.Core.Path.{_≡_, refl, sym, ap, _∙_}
+use Prim.Native.Nat.{ℕ, _+_, _*_, _-_, _/_, _<_, _≤_}
+use lib.ListN.{length, getD, drop, take, length-set}
+use borrow.Author.Needs.{needs}
+use Rattle.encoding.proofs.Ladder.{state-1, state-3, state-none, state-4}
+use Rattle.encoding.proofs.state_fault.Statement.{statement}
+use Rattle.encoding.proofs.state_fault.Tie as tie
+use Rattle.encoding.proofs.state_fault.Reads as reads
+use Rattle.encoding.proofs.state_fault.Lts as lts
+use Rattle.encoding.proofs.above.Reads as above-reads
+use Rattle.encoding.proofs.pick.Reads as pick-reads
+use Rattle.encoding.proofs.words.Reads as words-reads
+
+returns : tie.Need-returns
+returns c =
+    let a = c .before .before .args in
+    state-1 (a .n) (a .s .now) (c .if1 .taken)
+
+words-requires : tie.Need-words-requires
+words-requires c κs = search needs
+
+returns-2 : tie.Need-returns-2
+returns-2 c =
+    let w = c .before in
+    let a = w .before .before .before .args in
+    state-3 (a .n) (a .s .now) (w .words .result) (w .before .if1 .left) (w .words .ensures) (c .if2 .taken)
+
+returns-3 : tie.Need-returns-3
+returns-3 c =
+    let e2 = c .before in
+    let w = e2 .before in
+    let a = w .before .before .before .args in
+    state-none (a .n) (a .s .now) (w .words .result) (w .before .if1 .left) (w .words .ensures) (e2 .if2 .left) (c .if3 .taken)
+
+sub-t : tie.Need-sub-t
+sub-t c = search needs
+
+mul-t : tie.Need-mul-t
+mul-t c = search needs
+
+shared-slice-read-t : tie.Need-shared-slice-read-t
+shared-slice-read-t c = search needs
+
+above-requires : tie.Need-above-requires
+above-requires c κs = search needs
+
+pick-requires : tie.Need-pick-requires
+pick-requires c κs = search needs
+
+returns-4 : tie.Need-returns-4
+returns-4 c =
+    let v = c .before in
+    let e3 = v .before .before in
+    let e2 = e3 .before in
+    let w = e2 .before in
+    let a = w .before .before .before .args in
+    state-4 (a .n) (a .s .now) (w .words .result) (v .above .result) (c .pick .result) (w .before .if1 .left) (w .words .ensures) (e2 .if2 .left) (e3 .if3 .left) (v .above .ensures) (c .pick .ensures)
+
+pub state-fault-spec : {M : Type 1} → statement M
+state-fault-spec =
+    tie.close
+    (tie.spec
+    returns
+    words-requires
+    returns-2
+    returns-3
+    sub-t
+    mul-t
+    shared-slice-read-t
+    above-requires
+    pick-requires
+    returns-4)

@@ -1,0 +1,4 @@
+pub mod Limits
+pub mod Words
+pub mod Set
+pub mod Refusals

@@ -1,0 +1,16 @@
+-- Document 01, the limits: n qubits, 0 to 1,024; m rows, 0 to 256. Later requests that raise a limit change these numbers alone. Assumes nothing.
+use Prim.Native.Nat.{ℕ, _+_, _/_}
+
+abbrev pub maxQubits : ℕ
+maxQubits = 1024
+
+abbrev pub maxRows : ℕ
+maxRows = 256
+
+-- the words of a row: n/64 rounded up
+abbrev pub wordsOf : ℕ → ℕ
+wordsOf n = (n + 63) / 64
+
+-- the words of the longest row
+abbrev pub maxWords : ℕ
+maxWords = wordsOf maxQubits

@@ -1,0 +1,119 @@
+-- Document 01, "Refusal numbers": the lines of the table as tests, in the table's order, and the first number that fits; 0 stands for none. The tests of
+-- row sets, states and numbers stand here; those of orders, lists, logs and terms beside the calls that take them. Assumes nothing.
+use mathlib.Core.Bool.{Bool, true, false, cond, not, _||_}
+use mathlib.Core.List.{List, [], _∷_}
+use Prim.Native.Nat.{ℕ, zero, suc, _*_}
+use lib.Dec.{eqb, leb, ltb}
+use lib.ListN.{length, getD, drop}
+use Rattle.pauli.specs.Pauli.{Pauli, hasX, hasZ}
+use Rattle.encoding.specs.Limits.{maxQubits, maxRows, wordsOf}
+use Rattle.encoding.specs.Words.{unpack, unbits}
+use Rattle.encoding.specs.Set.{row, Mem, count}
+use Rattle.encoding.specs.declared.Answer.{Answer}
+use Rattle.encoding.specs.declared.Answer.the-variants.{Done, Refused}
+
+-- ---- the table
+
+-- the tests of a call are the table's lines in their order: the number of the first that holds, the first of them being k
+unfoldable pub faultFrom : ℕ → List Bool → ℕ
+faultFrom k [] = 0
+faultFrom k (t ∷ ts) = cond t k (faultFrom (suc k) ts)
+
+abbrev pub fault : List Bool → ℕ
+fault ts = faultFrom 1 ts
+
+-- what either of two parts of a call asks
+unfoldable pub joined : List Bool → List Bool → List Bool
+joined [] us = us
+joined (t ∷ ts) [] = t ∷ ts
+joined (t ∷ ts) (u ∷ us) = (t || u) ∷ joined ts us
+
+-- the smaller of two numbers of the table
+unfoldable pub least : ℕ → ℕ → ℕ
+least zero b = b
+least (suc a) zero = suc a
+least (suc a) (suc b) = cond (ltb (suc a) (suc b)) (suc a) (suc b)
+
+-- ---- the tests of a row set
+
+-- some number below m passes the test
+unfoldable pub someBelow : ℕ → (ℕ → Bool) → Bool
+someBelow zero f = false
+someBelow (suc m) f = someBelow m f || f m
+
+-- some element of the list passes the test
+unfoldable pub some : {A : Type 0} → (A → Bool) → List A → Bool
+some f [] = false
+some f (a ∷ l) = f a || some f l
+
+-- a qubit with a bit set
+abbrev pub isOn : Pauli → Bool
+isOn p = hasX p || hasZ p
+
+-- 1: n outside its range
+abbrev pub manyQubits : ℕ → Bool
+manyQubits n = ltb maxQubits n
+
+-- 2: m above 256
+abbrev pub manyRows : ℕ → Bool
+manyRows m = ltb maxRows m
+
+-- 3: the X and the Z words have not exactly m × w words each
+abbrev pub badLengths : ℕ → ℕ → ℕ → ℕ → Bool
+badLengths m w x z = not (eqb x (m * w)) || not (eqb z (m * w))
+
+-- 4: a bit set at n or above, in some row
+unfoldable pub badBits : ℕ → ℕ → ℕ → List ℕ → List ℕ → Bool
+badBits n m w xs zs = someBelow m (λ r. some isOn (drop n (unpack (row w r xs) (row w r zs))))
+
+-- 5: a phase byte above 3
+unfoldable pub badPhases : List ℕ → Bool
+badPhases es = some (λ e. ltb 3 e) es
+
+-- a set that is read: 1 to 5
+abbrev pub setTests : ℕ → Mem → List Bool
+setTests n M =
+    manyQubits n
+    ∷ manyRows (count M)
+    ∷ badLengths (count M) (wordsOf n) (length (M .xs)) (length (M .zs))
+    ∷ badBits n (count M) (wordsOf n) (M .xs) (M .zs)
+    ∷ badPhases (M .es)
+    ∷ []
+
+-- a set that is written only, of m rows: its old content is not tested
+abbrev pub outTests : ℕ → ℕ → Mem → List Bool
+outTests n m M =
+    manyQubits n
+    ∷ manyRows (count M)
+    ∷ (not (eqb (count M) m) || badLengths (count M) (wordsOf n) (length (M .xs)) (length (M .zs)))
+    ∷ []
+
+-- ---- states and numbers
+
+-- a lent basis state: w words (3), no bit set at n or above (4)
+abbrev pub stateTests : ℕ → List ℕ → List Bool
+stateTests n st =
+    manyQubits n
+    ∷ false
+    ∷ not (eqb (length st) (wordsOf n))
+    ∷ some (λ (b : Bool). b) (drop n (unbits st))
+    ∷ []
+
+-- 6: a number too large; its limit is the first number that is
+abbrev pub numberTests : Bool → List Bool
+numberTests large = false ∷ false ∷ false ∷ false ∷ false ∷ large ∷ []
+
+abbrev pub tooLarge : ℕ → ℕ → Bool
+tooLarge limit k = leb limit k
+
+-- ---- what a refusal comes to
+
+-- the answer of a call that changes its buffers
+abbrev pub doneOr : ℕ → Answer
+doneOr zero = Done
+doneOr (suc k) = Refused (suc k)
+
+-- a refusal leaves what was there
+abbrev pub leftOr : {A : Type 0} → ℕ → A → A → A
+leftOr zero old new = new
+leftOr (suc k) old new = old

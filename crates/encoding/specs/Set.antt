@@ -1,0 +1,73 @@
+-- Document 01, "How a row set lies in memory": n qubits, w words to a row, m rows, m being the length of the phase bytes; row r is the part of the words
+-- from r × w up to, not including, (r+1) × w. Reading a set out of its words and bytes, and laying it back. Assumes nothing.
+use mathlib.Core.Path.{_≡_}
+use mathlib.Core.Bool.{Bool, cond, _&&_}
+use mathlib.Core.List.{List, [], _∷_}
+use Prim.Native.Nat.{ℕ, zero, suc, _+_, _-_, _*_, _/_, _%_, _≤_, _<_}
+use lib.Dec.{ltb}
+use lib.ListN.{length, getD, take, drop, set}
+use Rattle.pauli.specs.Pauli.{Pauli, hasX, hasZ}
+use Rattle.pauli.specs.Row.{Row}
+use Rattle.encoding.specs.Limits.{wordsOf}
+use Rattle.encoding.specs.Words.{qubits, withBit, pack, layRows}
+
+-- the words from a up to, not including, e
+abbrev pub part : ℕ → ℕ → List ℕ → List ℕ
+part a e xs = take (e - a) (drop a xs)
+
+-- row r of words that lie w to a row
+abbrev pub row : ℕ → ℕ → List ℕ → List ℕ
+row w r xs = part (r * w) (r * w + w) xs
+
+-- the X words, the Z words, the phase bytes
+pub record Mem : Type 0 where
+  pub xs : List ℕ
+  pub zs : List ℕ
+  pub es : List ℕ
+
+abbrev pub mem : List ℕ → List ℕ → List ℕ → Mem
+mem xs zs es = record { xs = xs; zs = zs; es = es }
+
+-- the number of rows
+abbrev pub count : Mem → ℕ
+count M = length (M .es)
+
+-- reading: the row at each number, of rows that lie w words to a row; past the last row it is the identity
+unfoldable pub rowsIn : ℕ → ℕ → Mem → ℕ → Row
+rowsIn n w M k = record { ps = qubits n (row w k (M .xs)) (row w k (M .zs)); p = getD (M .es) k 0 }
+
+abbrev pub rowsOf : ℕ → Mem → ℕ → Row
+rowsOf n M = rowsIn n (wordsOf n) M
+
+-- f 0, f 1, and so on, m of them
+unfoldable pub list : {A : Type 0} → ℕ → (ℕ → A) → List A
+list zero f = []
+list (suc m) f = f 0 ∷ list m (λ k. f (suc k))
+
+-- laying back: m rows, w words to a row; bits at n and above are zero
+unfoldable pub layIn : ℕ → ℕ → (ℕ → Row) → Mem
+layIn w m σ = mem (layRows hasX w (list m (λ k. σ k .ps))) (layRows hasZ w (list m (λ k. σ k .ps))) (list m (λ k. σ k .p))
+
+abbrev pub lay : ℕ → ℕ → (ℕ → Row) → Mem
+lay n m σ = layIn (wordsOf n) m σ
+
+-- qubit q of a row's two parts has become the Pauli p: its two bits are changed, where they lie within both parts
+abbrev pub within : ℕ → List ℕ → List ℕ → Bool
+within q xs zs = ltb (q / 64) (length xs) && ltb (q / 64) (length zs)
+
+pub record QubitSet (q : ℕ) (p : Pauli) (xs zs xs′ zs′ : List ℕ) : Type 0 where
+  pub x-words : xs′ ≡ cond (within q xs zs) (set xs (q / 64) (withBit (getD xs (q / 64) 0) (q % 64) (hasX p))) xs
+  pub z-words : zs′ ≡ cond (within q xs zs) (set zs (q / 64) (withBit (getD zs (q / 64) 0) (q % 64) (hasZ p))) zs
+
+-- w words of X and of Z are what their first n qubits pack to: each word fits, and the bits at n and above are zero
+pub record Packed (n w : ℕ) (xs zs : List ℕ) : Type 0 where
+  pub x-is : xs ≡ pack hasX w (qubits n xs zs)
+  pub z-is : zs ≡ pack hasZ w (qubits n xs zs)
+
+-- what refusals 1 to 5 leave: lengths fit, bits at n and above are zero, phase bytes are below 4
+pub record Valid (n w : ℕ) (M : Mem) : Type 0 where
+  pub wide : n ≤ w * 64
+  pub x-long : length (M .xs) ≡ count M * w
+  pub z-long : length (M .zs) ≡ count M * w
+  pub packed : (r : ℕ) → r < count M → Packed n w (row w r (M .xs)) (row w r (M .zs))
+  pub small : (r : ℕ) → getD (M .es) r 0 < 4

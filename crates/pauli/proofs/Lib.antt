@@ -1,0 +1,12 @@
+pub mod Bools
+pub mod Lists
+pub mod IntRing
+pub mod GaussRing
+pub mod Every
+pub mod Products
+pub mod Phases
+pub mod Commute
+pub mod RowLaws
+pub mod OnQubits
+pub mod Vectors
+pub mod Meaning

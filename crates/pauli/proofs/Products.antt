@@ -1,0 +1,64 @@
+-- The product of two rows is the product of their matrices. Assumes nothing.
+use mathlib.Core.Path.{_≡_, refl, sym, ap, ap₂, _∙_, fun-ext}
+use mathlib.Core.Bool.{Bool, true, false}
+use mathlib.Core.List.{List, [], _∷_}
+use Prim.Native.Nat.{ℕ, zero, suc, _+_, _*_, _%_}
+use native.Mathlib.Nat.{suc-inj}
+use native.Mathlib.Omega.{arith}
+use lib.Dec.{T, eqb, eqb→eq}
+use lib.ListN.{length}
+use Rattle.pauli.specs.Gauss.{Gauss, _⊕_, _⊗_, g0, g1, gi, ipow}
+use Rattle.pauli.specs.Matrix.{entry, matrix, sum, times}
+use Rattle.pauli.specs.Pauli.{Pauli, I, X, Y, Z, _·_, phase, mul, phases, turn, turnPhase, act, actPhase}
+use Rattle.pauli.proofs.GaussRing.{⊗-comm, ⊗-assoc, ⊕-⊗, ⊗-⊕, ⊗-four, g1-⊗, g0-⊗, ipow-add}
+use Rattle.pauli.proofs.Every.{everyP, atP, everyB, atB, eqG, eqG→eq}
+
+-- ---- one qubit
+
+one-product : Pauli → Pauli → Bool → Bool → Bool
+one-product p q a b = eqG (entry p a false ⊗ entry q false b ⊕ entry p a true ⊗ entry q true b) (ipow (phase p q) ⊗ entry (p · q) a b)
+
+pub one : (p q : Pauli) (a b : Bool)
+    → entry p a false ⊗ entry q false b ⊕ entry p a true ⊗ entry q true b ≡ ipow (phase p q) ⊗ entry (p · q) a b
+unfolding one-product
+one p q a b =
+    eqG→eq (entry p a false ⊗ entry q false b ⊕ entry p a true ⊗ entry q true b) (ipow (phase p q) ⊗ entry (p · q) a b)
+    (atB (one-product p q a)
+    (atB (λ a. everyB (one-product p q a))
+    (atP (λ q. everyB (λ a. everyB (one-product p q a))) (atP (λ p. everyP (λ q. everyB (λ a. everyB (one-product p q a)))) tt p) q) a) b)
+
+-- ---- sums
+
+pub sum-scale : (n : ℕ) (k : Gauss) (f : List Bool → Gauss) → sum n (λ s. k ⊗ f s) ≡ k ⊗ sum n f
+sum-scale zero k f = refl
+sum-scale (suc n) k f =
+    ap₂ (λ (x y : Gauss). x ⊕ y) (sum-scale n k (λ s. f (false ∷ s))) (sum-scale n k (λ s. f (true ∷ s)))
+    ∙ sym (⊗-⊕ k (sum n (λ s. f (false ∷ s))) (sum n (λ s. f (true ∷ s))))
+
+pub sum-ext : (n : ℕ) (f g : List Bool → Gauss) → ((s : List Bool) → f s ≡ g s) → sum n f ≡ sum n g
+sum-ext n f g h = ap (sum n) (fun-ext h)
+
+-- one value of the first qubit
+pub half : (n : ℕ) (x y : Gauss) (f g : List Bool → Gauss) → sum n (λ s. (x ⊗ f s) ⊗ (y ⊗ g s)) ≡ (x ⊗ y) ⊗ sum n (λ s. f s ⊗ g s)
+half n x y f g =
+    sum-ext n (λ s. (x ⊗ f s) ⊗ (y ⊗ g s)) (λ s. (x ⊗ y) ⊗ (f s ⊗ g s)) (λ s. ⊗-four x (f s) y (g s))
+    ∙ sum-scale n (x ⊗ y) (λ s. f s ⊗ g s)
+
+-- matrix(a) matrix(b) is i to the phase(a, b) times matrix(a b)
+pub product : (ps qs : List Pauli) (r c : List Bool) → length qs ≡ length ps → length r ≡ length ps → length c ≡ length ps
+    → times (length ps) (matrix ps) (matrix qs) r c ≡ ipow (phases ps qs) ⊗ matrix (mul ps qs) r c
+product [] [] r c h₁ h₂ h₃ = refl
+product [] (q ∷ qs) r c h₁ h₂ h₃ = absurd (omega arith)
+product (p ∷ ps) [] r c h₁ h₂ h₃ = absurd (omega arith)
+product (p ∷ ps) (q ∷ qs) [] c h₁ h₂ h₃ = absurd (omega arith)
+product (p ∷ ps) (q ∷ qs) (a ∷ r) [] h₁ h₂ h₃ = absurd (omega arith)
+product (p ∷ ps) (q ∷ qs) (a ∷ r) (b ∷ c) h₁ h₂ h₃ =
+    let n = length ps in
+    let rest = times n (matrix ps) (matrix qs) r c in
+    ap₂ (λ (x y : Gauss). x ⊕ y)
+    (half n (entry p a false) (entry q false b) (matrix ps r) (λ s. matrix qs s c))
+    (half n (entry p a true) (entry q true b) (matrix ps r) (λ s. matrix qs s c))
+    ∙ sym (⊕-⊗ (entry p a false ⊗ entry q false b) (entry p a true ⊗ entry q true b) rest)
+    ∙ ap₂ (λ (x y : Gauss). x ⊗ y) (one p q a b) (product ps qs r c (suc-inj h₁) (suc-inj h₂) (suc-inj h₃))
+    ∙ ⊗-four (ipow (phase p q)) (entry (p · q) a b) (ipow (phases ps qs)) (matrix (mul ps qs) r c)
+    ∙ ap (λ (x : Gauss). x ⊗ (entry (p · q) a b ⊗ matrix (mul ps qs) r c)) (sym (ipow-add (phase p q) (phases ps qs)))

@@ -1,0 +1,5 @@
+pub mod Pauli
+pub mod Row
+pub mod Rows
+pub mod Gauss
+pub mod Matrix

@@ -1,0 +1,53 @@
+-- Document 01, "Products and actions", over the rows of a set: a set is the row at each number. Phase, commutation, central rows, counts, pairwise
+-- products, one qubit set, and the action on a basis state. n is the number of qubits, m the number of rows. Assumes nothing.
+use mathlib.Core.Bool.{Bool, true, false, cond, _&&_}
+use mathlib.Core.List.{List, [], _∷_}
+use Prim.Native.Nat.{ℕ, zero, suc, _+_, _-_, _%_}
+use lib.Dec.{eqb}
+use lib.ListN.{getD, take, set}
+use Rattle.pauli.specs.Pauli.{Pauli, I, X, Y, Z, phases, act, actPhase, clashes}
+use Rattle.pauli.specs.Row.{Row, padMul, expo, eqP}
+
+-- the exponent of the product of two rows, mod 4, without the rows' own
+abbrev pub phaseOf : ℕ → Row → Row → ℕ
+phaseOf n a b = expo n a b % 4
+
+-- two rows commute exactly when an even number of qubits hold differing non-identity Paulis
+unfoldable pub commute : ℕ → Row → Row → Bool
+commute n a b = eqb (clashes (take n (a .ps)) (take n (b .ps)) % 2) 0
+
+-- a test at each number below m
+unfoldable pub everyBelow : ℕ → (ℕ → Bool) → Bool
+everyBelow zero f = true
+everyBelow (suc m) f = everyBelow m f && f m
+
+-- a row is central when it commutes with every row
+unfoldable pub central : ℕ → ℕ → (ℕ → Row) → ℕ → Bool
+central n m σ r = everyBelow m (λ k. commute n (σ r) (σ k))
+
+-- how many qubits hold a Pauli
+unfoldable pub holding : Pauli → List Pauli → ℕ
+holding p [] = 0
+holding p (q ∷ qs) = cond (eqP p q) (suc (holding p qs)) (holding p qs)
+
+-- count of X, Y, Z: qubits holding it; count of I: n less the others
+unfoldable pub countOf : ℕ → Pauli → Row → ℕ
+countOf n I r = n - (holding X (take n (r .ps)) + holding Y (take n (r .ps)) + holding Z (take n (r .ps)))
+countOf n X r = holding X (take n (r .ps))
+countOf n Y r = holding Y (take n (r .ps))
+countOf n Z r = holding Z (take n (r .ps))
+
+-- pairwise: row i is left i times right i, and its exponent is phase(left i, right i)
+unfoldable pub pairRow : ℕ → Row → Row → Row
+pairRow n a b = record { ps = padMul (a .ps) (b .ps); p = phaseOf n a b }
+
+-- the set with Pauli p at qubit q of row r: no exponent changes
+unfoldable pub withQubit : (ℕ → Row) → ℕ → ℕ → Pauli → ℕ → Row
+withQubit σ r q p k = cond (eqb k r) (record { ps = set (σ r .ps) q p; p = σ r .p }) (σ k)
+
+-- a row on a basis state: the new state, and the exponent mod 4 without the row's own
+abbrev pub actOn : ℕ → Row → List Bool → List Bool
+actOn n r s = act (take n (r .ps)) s
+
+abbrev pub actPhaseOn : ℕ → Row → List Bool → ℕ
+actPhaseOn n r s = actPhase (take n (r .ps)) s % 4

@@ -1,0 +1,6 @@
+pub mod Masks
+pub mod WordPhase
+pub mod RowLaws
+pub mod PartLaws
+pub mod InPlace
+pub mod ActLaws

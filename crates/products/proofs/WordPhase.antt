@@ -1,0 +1,106 @@
+-- The counts of masked words are sums over the qubits: of exponents, and of clashes. Assumes nothing.
+use mathlib.Core.Path.{_≡_, refl, sym, ap, ap₂, _∙_}
+use mathlib.Core.Bool.{Bool, true, false}
+use mathlib.Core.List.{List, [], _∷_}
+use Prim.Native.Nat.{ℕ, zero, suc, _+_, _*_, _/_, _^_, _<_}
+use lib.Dec.{T, eqb}
+use lib.ListN.{getD}
+use lib.Pow.{pow-pos}
+use Rattle.pauli.specs.Pauli.{Pauli, total, phase, phases, turnPhase, actPhase, clash, clashes}
+use Rattle.encoding.specs.Words.{odd, bit, word, bits}
+use Rattle.pauli.specs.Pauli.{ofBits}
+use Rattle.products.proofs.Masks.{Mask, var, inv, both, either, differ, Below, counted, place, places, everyL, counts}
+
+pub below₄ : (d : ℕ) {a b c e : ℕ} → a < 2 ^ d → b < 2 ^ d → c < 2 ^ d → e < 2 ^ d → Below d (a ∷ b ∷ c ∷ e ∷ [])
+below₄ d ha hb hc he zero = ha
+below₄ d ha hb hc he (suc zero) = hb
+below₄ d ha hb hc he (suc (suc zero)) = hc
+below₄ d ha hb hc he (suc (suc (suc zero))) = he
+below₄ d ha hb hc he (suc (suc (suc (suc k)))) = pow-pos d
+
+pub below₃ : (d : ℕ) {a b c : ℕ} → a < 2 ^ d → b < 2 ^ d → c < 2 ^ d → Below d (a ∷ b ∷ c ∷ [])
+below₃ d ha hb hc zero = ha
+below₃ d ha hb hc (suc zero) = hb
+below₃ d ha hb hc (suc (suc zero)) = hc
+below₃ d ha hb hc (suc (suc (suc k))) = pow-pos d
+
+-- ---- what one place holds: left and right Pauli, or a Pauli and a bit
+
+abbrev leftP : List Bool → Pauli
+leftP bs = ofBits (getD bs 0 false) (getD bs 1 false)
+
+abbrev rightP : List Bool → Pauli
+rightP bs = ofBits (getD bs 2 false) (getD bs 3 false)
+
+total-places : (v : Pauli → Pauli → ℕ) (d a b c e : ℕ) → places d (λ bs. v (leftP bs) (rightP bs)) (a ∷ b ∷ c ∷ e ∷ []) ≡ total v (word d a b) (word d c e)
+unfolding places word
+total-places v zero a b c e = refl
+total-places v (suc d) a b c e = ap (λ (n : ℕ). v (ofBits (odd a) (odd b)) (ofBits (odd c) (odd e)) + n) (total-places v d (a / 2) (b / 2) (c / 2) (e / 2))
+
+act-places : (d a b r : ℕ) → places d (λ bs. turnPhase (leftP bs) (getD bs 2 false)) (a ∷ b ∷ r ∷ []) ≡ actPhase (word d a b) (bits d r)
+unfolding places word bits
+act-places zero a b r = refl
+act-places (suc d) a b r = ap (λ (n : ℕ). turnPhase (ofBits (odd a) (odd b)) (odd r) + n) (act-places d (a / 2) (b / 2) (r / 2))
+
+-- ---- the masks
+
+abbrev lx : Mask
+lx = var 0
+
+abbrev lz : Mask
+lz = var 1
+
+abbrev rx : Mask
+rx = var 2
+
+abbrev rz : Mask
+rz = var 3
+
+-- four masks at once
+abbrev all₄ : Mask → Mask → Mask → Mask → Mask
+all₄ a b c d = both (both (both a b) c) d
+
+-- XY, YX, XZ, ZX, YZ and ZY
+abbrev pub six : List (ℕ × Mask)
+six =
+    (1, all₄ lx (inv lz) rx rz)
+    ∷ (3, all₄ lx lz rx (inv rz))
+    ∷ (3, all₄ lx (inv lz) (inv rx) rz)
+    ∷ (1, all₄ (inv lx) lz rx (inv rz))
+    ∷ (1, all₄ lx lz (inv rx) rz)
+    ∷ (3, all₄ (inv lx) lz rx rz)
+    ∷ []
+
+-- those that give 1 joined, and those that give 3
+abbrev pub two : List (ℕ × Mask)
+two =
+    (1, either (either (all₄ lx (inv lz) rx rz) (all₄ (inv lx) lz rx (inv rz))) (all₄ lx lz (inv rx) rz))
+    ∷ (3, either (either (all₄ lx lz rx (inv rz)) (all₄ lx (inv lz) (inv rx) rz)) (all₄ (inv lx) lz rx rz))
+    ∷ []
+
+-- where the Paulis clash
+abbrev pub apart : List (ℕ × Mask)
+apart = (1, differ (both lx rz) (both lz rx)) ∷ []
+
+-- on a state: Y on 0, Y on 1, Z on 1
+abbrev pub three : List (ℕ × Mask)
+three = (1, both (both lx lz) (inv rx)) ∷ (3, both (both lx lz) rx) ∷ (2, both (both (inv lx) lz) rx) ∷ []
+
+-- ---- their counts
+
+-- four words: where the masks add up to v at one place, which a test shows
+pub counts₄ : (v : Pauli → Pauli → ℕ) (ms : List (ℕ × Mask)) → T (everyL 4 (λ bs. eqb (place bs ms) (v (leftP bs) (rightP bs))))
+    → (d a b c e : ℕ) → Below d (a ∷ b ∷ c ∷ e ∷ []) → counted d (a ∷ b ∷ c ∷ e ∷ []) ms ≡ total v (word d a b) (word d c e)
+counts₄ v ms t d a b c e h = counts ms (λ bs. v (leftP bs) (rightP bs)) 4 t d (a ∷ b ∷ c ∷ e ∷ []) refl h ∙ total-places v d a b c e
+
+pub six-phases : (d a b c e : ℕ) → Below d (a ∷ b ∷ c ∷ e ∷ []) → counted d (a ∷ b ∷ c ∷ e ∷ []) six ≡ phases (word d a b) (word d c e)
+six-phases = counts₄ phase six tt
+
+pub two-phases : (d a b c e : ℕ) → Below d (a ∷ b ∷ c ∷ e ∷ []) → counted d (a ∷ b ∷ c ∷ e ∷ []) two ≡ phases (word d a b) (word d c e)
+two-phases = counts₄ phase two tt
+
+pub apart-clashes : (d a b c e : ℕ) → Below d (a ∷ b ∷ c ∷ e ∷ []) → counted d (a ∷ b ∷ c ∷ e ∷ []) apart ≡ clashes (word d a b) (word d c e)
+apart-clashes = counts₄ clash apart tt
+
+pub three-phases : (d a b r : ℕ) → Below d (a ∷ b ∷ r ∷ []) → counted d (a ∷ b ∷ r ∷ []) three ≡ actPhase (word d a b) (bits d r)
+three-phases d a b r h = counts three (λ bs. turnPhase (leftP bs) (getD bs 2 false)) 3 tt d (a ∷ b ∷ r ∷ []) refl h ∙ act-places d a b r

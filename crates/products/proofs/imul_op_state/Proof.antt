@@ -1,0 +1,36 @@
+use native.Mathlib.Omega.{arith}
+use mathlib.Core.Path.{_≡_, refl, sym, ap, _∙_}
+use Prim.Native.Nat.{ℕ, _+_, _*_, _-_, _/_, _<_, _≤_}
+use lib.ListN.{length, getD, drop, take, length-set}
+use borrow.Author.Needs.{needs}
+use Rattle.products.proofs.PartLaws.{acted-up-to}
+use Prim.Native.Nat.{min}
+use Rattle.products.proofs.imul_op_state.Statement.{statement}
+use Rattle.products.proofs.imul_op_state.Tie as tie
+use Rattle.products.proofs.imul_op_state.Reads as reads
+use Rattle.products.proofs.imul_op_state.Lts as lts
+use Rattle.products.proofs.act_first.Reads as act-first-reads
+use Rattle.products.proofs.shorter.Reads as shorter-reads
+
+shorter-requires : tie.Need-shorter-requires
+shorter-requires c κs = search needs
+
+shorter-requires-2 : tie.Need-shorter-requires-2
+shorter-requires-2 c κs = search needs
+
+act-first-requires : tie.Need-act-first-requires
+act-first-requires c κs = search needs
+
+same-length : tie.Need-same-length
+same-length c = search needs
+
+returns : tie.Need-returns
+returns c =
+    let r = c .before .before in
+    let k = r .before .before in
+    let s = k .before .before .before .before .before in
+    acted-up-to (k .shorter2 .ensures ∙ ap (min (length (s .args .lx .now))) (k .before .shorter .ensures)) (r .act-first .ensures)
+
+pub imul-op-state-spec : {M : Type 1} → statement M
+imul-op-state-spec =
+    tie.close (tie.spec shorter-requires shorter-requires-2 act-first-requires same-length returns)

@@ -1,0 +1,25 @@
+use native.Mathlib.Omega.{arith}
+use mathlib.Core.Path.{_≡_, refl, sym, ap, _∙_}
+use Prim.Native.Nat.{ℕ, _+_, _*_, _-_, _/_, _<_, _≤_}
+use lib.ListN.{length, getD, drop, take, length-set}
+use borrow.Author.Needs.{needs}
+use Rattle.products.proofs.InPlace.{lies-in, lies-out}
+use Rattle.products.proofs.lies.Statement.{statement}
+use Rattle.products.proofs.lies.Tie as tie
+use Rattle.products.proofs.lies.Reads as reads
+use Rattle.products.proofs.lies.Lts as lts
+
+add-e : tie.Need-add-e
+add-e c = search needs
+
+returns : tie.Need-returns
+returns c = let a = c .before .before .args in lies-in (a .s) (a .w) (a .x) (a .z) (c .before .if1 .taken) (c .if2 .taken)
+
+returns-2 : tie.Need-returns-2
+returns-2 c = let a = c .before .before .args in lies-out (a .s) (a .w) (a .x) (a .z) (omega arith)
+
+returns-3 : tie.Need-returns-3
+returns-3 c = let a = c .before .args in lies-out (a .s) (a .w) (a .x) (a .z) (omega arith)
+
+pub lies-spec : {M : Type 1} → statement M
+lies-spec = tie.close (tie.spec add-e returns returns-2 returns-3)

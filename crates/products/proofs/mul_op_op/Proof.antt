@@ -1,0 +1,70 @@
+use native.Mathlib.Omega.{arith}
+use mathlib.Core.Path.{_≡_, refl, sym, ap, _∙_}
+use Prim.Native.Nat.{ℕ, _+_, _*_, _-_, _/_, _<_, _≤_}
+use lib.ListN.{length, getD, drop, take, length-set}
+use borrow.Author.Needs.{needs}
+use Prim.Native.Nat.{min}
+use Rattle.products.proofs.PartLaws.{product-up-to}
+use Rattle.products.specs.Leaves.{shortest₆}
+use Rattle.products.proofs.mul_op_op.Statement.{statement}
+use Rattle.products.proofs.mul_op_op.Tie as tie
+use Rattle.products.proofs.mul_op_op.Reads as reads
+use Rattle.products.proofs.mul_op_op.Lts as lts
+use Rattle.products.proofs.mul_first.Reads as mul-first-reads
+use Rattle.products.proofs.shorter.Reads as shorter-reads
+
+shorter-requires : tie.Need-shorter-requires
+shorter-requires c κs = search needs
+
+shorter-requires-2 : tie.Need-shorter-requires-2
+shorter-requires-2 c κs = search needs
+
+shorter-requires-3 : tie.Need-shorter-requires-3
+shorter-requires-3 c κs = search needs
+
+shorter-requires-4 : tie.Need-shorter-requires-4
+shorter-requires-4 c κs = search needs
+
+shorter-requires-5 : tie.Need-shorter-requires-5
+shorter-requires-5 c κs = search needs
+
+is-shortest : (k5 : tie.After-shorter5) → let s = k5 .before .before .before .before .before .before .before .before .before .before .before in
+    (k5 .shorter5 .result ≡ shortest₆ (s .args .lx .now) (s .args .lz .now) (s .args .rx .now) (s .args .rz .now) (s .args .ox .now) (s .args .oz .now))
+is-shortest k5 =
+    let s = k5 .before .before .before .before .before .before .before .before .before .before .before in
+    k5 .shorter5 .ensures
+    ∙ ap (min (length (s .args .lx .now)))
+    (k5 .before .shorter4 .ensures
+    ∙ ap (min (length (s .args .lz .now)))
+    (k5 .before .before .shorter3 .ensures
+    ∙ ap (min (length (s .args .rx .now)))
+    (k5 .before .before .before .shorter2 .ensures ∙ ap (min (length (s .args .rz .now))) (k5 .before .before .before .before .shorter .ensures))))
+
+mul-first-requires : tie.Need-mul-first-requires
+mul-first-requires c κs = is-shortest (c .before .before)
+
+same-length : tie.Need-same-length
+same-length c = search needs
+
+same-length-2 : tie.Need-same-length-2
+same-length-2 c = search needs
+
+returns : tie.Need-returns
+returns c =
+    let r = c .before .before .before .before in
+    let k5 = r .before .before .before in
+    product-up-to (is-shortest k5) (r .mul-first .ensures)
+
+pub mul-op-op-spec : {M : Type 1} → statement M
+mul-op-op-spec =
+    tie.close
+    (tie.spec
+    shorter-requires
+    shorter-requires-2
+    shorter-requires-3
+    shorter-requires-4
+    shorter-requires-5
+    mul-first-requires
+    same-length
+    same-length-2
+    returns)

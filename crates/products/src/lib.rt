@@ -1,0 +1,253 @@
+// Products of words and rows, and their actions on basis states. l and r stand for the left and right operands, x and z for the two parts.
+ghost use mathlib.Core.Path.{_≡_};
+ghost use mathlib.Core.Bool.{Bool, true, _&&_, _||_};
+ghost use Prim.Native.Nat.{_+_, _*_, _%_, _^_, _≤_, _<_, min};
+ghost use lib.Count.{ones};
+ghost use lib.Dec.{eqb, leb};
+ghost use lib.ListN.{length};
+ghost use Rattle.pauli.specs.Pauli.{phases, actPhase, clashes};
+ghost use Rattle.encoding.specs.Words.{word, bits, unpack};
+ghost use Rattle.products.specs.Leaves.{SameLength, Product, ProductAt, shortest₃, shortest₄, shortest₆, RowProduct, Room, Multiplied, ProductIn, Acted, ActedAt, RowAction};
+use pauli::ComplexSign;
+
+// How many bits of x are set.
+fn count(x: u64) -> u64
+    ensures { λ r. ⌜ (r ≡ ones x) × (r ≤ 64) ⌝ }
+{
+    u64::count_ones(x) as u64
+}
+
+// The exponent of i of the product of two words of 64 Paulis.
+#[no_mangle]
+pub extern "C" fn mul_op_op_phase_u64(lx: u64, lz: u64, rx: u64, rz: u64) -> u64
+    ensures { λ r. ⌜ r ≡ phases (word 64 lx lz) (word 64 rx rz) % 4 ⌝ }
+{
+    let xy = count(lx & !lz & rx & rz);
+    let yx = count(lx & lz & rx & !rz);
+    let xz = count(lx & !lz & !rx & rz);
+    let zx = count(!lx & lz & rx & !rz);
+    let yz = count(lx & lz & !rx & rz);
+    let zy = count(!lx & lz & rx & rz);
+    (xy + 3 * yx + 3 * xz + zx + yz + 3 * zy) % 4
+}
+
+// The exponent of i of a word of 64 Paulis on a basis state.
+#[no_mangle]
+pub extern "C" fn mul_op_state_phase_u64(lx: u64, lz: u64, r: u64) -> u64
+    ensures { λ e. ⌜ e ≡ actPhase (word 64 lx lz) (bits 64 r) % 4 ⌝ }
+{
+    let y0 = count(lx & lz & !r);
+    let y1 = count(lx & lz & r);
+    let z1 = count(!lx & lz & r);
+    (y0 + 3 * y1 + 2 * z1) % 4
+}
+
+// The number of qubits of a word at which the Paulis differ and neither is I.
+fn clash_u64(lx: u64, lz: u64, rx: u64, rz: u64) -> u64
+    ensures { λ r. ⌜ (r ≡ clashes (word 64 lx lz) (word 64 rx rz)) × (r ≤ 64) ⌝ }
+{
+    count((lx & rz) ^ (lz & rx))
+}
+
+fn shorter(a: usize, b: usize) -> usize
+    ensures { λ r. ⌜ r ≡ min a b ⌝ }
+{
+    if a < b { a } else { b }
+}
+
+fn shortest(a: &[u64], b: &[u64], c: &[u64], d: &[u64]) -> usize
+    ensures { λ r. ⌜ r ≡ shortest₄ (now (a .entry)) (now (b .entry)) (now (c .entry)) (now (d .entry)) ⌝ }
+{
+    shorter(a.len(), shorter(b.len(), shorter(c.len(), d.len())))
+}
+
+// The exponent of the product of two rows.
+pub fn mul_op_op_phase(lx: &[u64], lz: &[u64], rx: &[u64], rz: &[u64]) -> ComplexSign
+    ensures { λ e. ⌜ e .0 ≡ phases (unpack (now (lx .entry)) (now (lz .entry))) (unpack (now (rx .entry)) (now (rz .entry))) % 4 ⌝ }
+{
+    let k = shortest(lx, lz, rx, rz);
+    let mut e: u64 = 0;
+    let mut i = 0;
+    while i < k {
+        e = (e + mul_op_op_phase_u64(lx[i], lz[i], rx[i], rz[i])) % 4;
+        i += 1;
+    }
+    ComplexSign(e as u8)
+}
+
+// Whether two rows commute: an even number of qubits hold differing Paulis that are not I.
+pub fn commutes(lx: &[u64], lz: &[u64], rx: &[u64], rz: &[u64]) -> bool
+    ensures { λ r. ⌜ r ≡ eqb (clashes (unpack (now (lx .entry)) (now (lz .entry))) (unpack (now (rx .entry)) (now (rz .entry))) % 2) 0 ⌝ }
+{
+    let k = shortest(lx, lz, rx, rz);
+    let mut n: u64 = 0;
+    let mut i = 0;
+    while i < k {
+        n = (n + clash_u64(lx[i], lz[i], rx[i], rz[i])) % 2;
+        i += 1;
+    }
+    n == 0
+}
+
+// The product of two rows of the same length goes into a third place, and its exponent is returned.
+fn mul_row(
+    lx: &[u64],
+    lz: &[u64],
+    rx: &[u64],
+    rz: &[u64],
+    ox: &mut [u64],
+    oz: &mut [u64],
+) -> ComplexSign
+    requires { ⌜ SameLength (length (now lx)) (now lx) (now lz) (now rx) (now rz) (now ox) (now oz) ⌝ }
+    ensures { λ r. ⌜ Product (now (lx .entry)) (now (lz .entry)) (now (rx .entry)) (now (rz .entry)) (now (ox .exit)) (now (oz .exit)) (r .0) ⌝ }
+{
+    let mut e: u64 = 0;
+    let mut i = 0;
+    while i < lx.len() {
+        let a = lx[i];
+        let b = lz[i];
+        let c = rx[i];
+        let d = rz[i];
+        e = (e + mul_op_op_phase_u64(a, b, c, d)) % 4;
+        ox[i] = a ^ c;
+        oz[i] = b ^ d;
+        i += 1;
+    }
+    ComplexSign(e as u8)
+}
+
+// The same at the first k words of each of the six parts.
+fn mul_first(
+    k: usize,
+    lx: &[u64],
+    lz: &[u64],
+    rx: &[u64],
+    rz: &[u64],
+    ox: &mut [u64],
+    oz: &mut [u64],
+) -> ComplexSign
+    requires { ⌜ k ≡ shortest₆ (now lx) (now lz) (now rx) (now rz) (now ox) (now oz) ⌝ }
+    ensures { λ r. ⌜ ProductAt 0 k (now (lx .entry)) (now (lz .entry)) (now (rx .entry)) (now (rz .entry)) (now (ox .entry)) (now (oz .entry)) (now (ox .exit)) (now (oz .exit)) (r .0) ⌝ }
+{
+    mul_row(
+        &lx[0..k],
+        &lz[0..k],
+        &rx[0..k],
+        &rz[0..k],
+        &mut ox[0..k],
+        &mut oz[0..k],
+    )
+}
+
+// The product of two rows is written into a third part, and its exponent returned.
+pub fn mul_op_op(
+    lx: &[u64],
+    lz: &[u64],
+    rx: &[u64],
+    rz: &[u64],
+    ox: &mut [u64],
+    oz: &mut [u64],
+) -> ComplexSign
+    ensures { λ r. ⌜ RowProduct (now (lx .entry)) (now (lz .entry)) (now (rx .entry)) (now (rz .entry)) (now (ox .entry)) (now (oz .entry)) (now (ox .exit)) (now (oz .exit)) (r .0) ⌝ }
+{
+    let a = shorter(ox.len(), oz.len());
+    let b = shorter(rz.len(), a);
+    let c = shorter(rx.len(), b);
+    let k = shorter(lx.len(), shorter(lz.len(), c));
+    mul_first(k, lx, lz, rx, rz, ox, oz)
+}
+
+// Whether the w words from s on lie within both slices.
+fn lies(s: usize, w: usize, x: usize, z: usize) -> bool
+    ensures { λ r. ⌜ r ≡ (leb (s + w) x && leb (s + w) z) ⌝ }
+{
+    if s <= x {
+        if w <= x - s {
+            let e = s + w;
+            return e <= z;
+        }
+    }
+    false
+}
+
+// Whether w words from s on and from t on are the same or do not overlap.
+fn apart(s: usize, t: usize, w: usize) -> bool
+    requires { ⌜ (s + w < 2 ^ 64) × (t + w < 2 ^ 64) ⌝ }
+    ensures { λ r. ⌜ r ≡ (eqb s t || (leb (s + w) t || leb (t + w) s)) ⌝ }
+{
+    let a = s == t;
+    let b = s + w <= t;
+    let c = t + w <= s;
+    a | (b | c)
+}
+
+// Words are read from t on and written from s on, w of them.
+fn imul_row(x: &mut [u64], z: &mut [u64], s: usize, t: usize, w: usize) -> ComplexSign
+    requires { ⌜ Room w s t (now x) (now z) ⌝ }
+    ensures { λ r. ⌜ Multiplied w s t (now (x .entry)) (now (z .entry)) (now (x .exit)) (now (z .exit)) (r .0) ⌝ }
+{
+    let mut e: u64 = 0;
+    let mut i = 0;
+    while i < w {
+        let a = s + i;
+        let b = t + i;
+        let lx = x[a];
+        let lz = z[a];
+        let rx = x[b];
+        let rz = z[b];
+        e = (e + mul_op_op_phase_u64(lx, lz, rx, rz)) % 4;
+        x[a] = lx ^ rx;
+        z[a] = lz ^ rz;
+        i += 1;
+    }
+    ComplexSign(e as u8)
+}
+
+// A row is multiplied in place by another of the same set, w words from s on by w words from t on; where these do not lie inside, or
+// overlap, nothing is done.
+pub fn imul_op_op(x: &mut [u64], z: &mut [u64], s: usize, t: usize, w: usize) -> ComplexSign
+    ensures { λ r. ⌜ ProductIn w s t (now (x .entry)) (now (z .entry)) (now (x .exit)) (now (z .exit)) (r .0) ⌝ }
+{
+    if lies(s, w, x.len(), z.len()) {
+        if lies(t, w, x.len(), z.len()) {
+            if apart(s, t, w) {
+                return imul_row(x, z, s, t, w);
+            }
+        }
+    }
+    ComplexSign(0)
+}
+
+// A row acts on a basis state of the same length, which is changed in place; the exponent is returned.
+fn act_row(lx: &[u64], lz: &[u64], st: &mut [u64]) -> ComplexSign
+    requires { ⌜ (length (now lz) ≡ length (now lx)) × (length (now st) ≡ length (now lx)) ⌝ }
+    ensures { λ r. ⌜ Acted (now (lx .entry)) (now (lz .entry)) (now (st .entry)) (now (st .exit)) (r .0) ⌝ }
+{
+    let mut e: u64 = 0;
+    let mut i = 0;
+    while i < lx.len() {
+        let a = lx[i];
+        let b = lz[i];
+        let r = st[i];
+        e = (e + mul_op_state_phase_u64(a, b, r)) % 4;
+        st[i] = a ^ r;
+        i += 1;
+    }
+    ComplexSign(e as u8)
+}
+
+// The same at the first k words of each part.
+fn act_first(k: usize, lx: &[u64], lz: &[u64], st: &mut [u64]) -> ComplexSign
+    requires { ⌜ k ≡ shortest₃ (now lx) (now lz) (now st) ⌝ }
+    ensures { λ r. ⌜ ActedAt k (now (lx .entry)) (now (lz .entry)) (now (st .entry)) (now (st .exit)) (r .0) ⌝ }
+{
+    act_row(&lx[0..k], &lz[0..k], &mut st[0..k])
+}
+
+// A row acts on a lent basis state, which is changed in place; the exponent is returned.
+pub fn imul_op_state(lx: &[u64], lz: &[u64], st: &mut [u64]) -> ComplexSign
+    ensures { λ r. ⌜ RowAction (now (lx .entry)) (now (lz .entry)) (now (st .entry)) (now (st .exit)) (r .0) ⌝ }
+{
+    let k = shorter(lx.len(), shorter(lz.len(), st.len()));
+    act_first(k, lx, lz, st)
+}

@@ -1,0 +1,15 @@
+pub mod Cases
+pub mod Xor
+pub mod Lists
+pub mod Log
+pub mod Run
+pub mod Walk
+pub mod Forms
+pub mod Bounds
+pub mod Stop
+pub mod Entries
+pub mod Span
+pub mod Phase
+pub mod Checker
+pub mod Theorems
+pub mod PauliRows

@@ -1,0 +1,10 @@
+pub mod Lists
+pub mod Rule
+pub mod Replay
+pub mod Log
+pub mod Capacity
+pub mod Form
+pub mod Checker
+pub mod Demand
+pub mod Laws
+pub mod Twin
