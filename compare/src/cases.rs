@@ -1,0 +1,20 @@
+//! The cases of a run: all small ones, every refusal alone and in pairs, and then as many random ones as asked for.
+
+use crate::random::Random;
+use crate::small::{self, spoiled, Sink};
+use crate::{malformed, valid};
+
+pub fn all(seed: u64, count: u64, sink: Sink) {
+    small::all(sink);
+    for i in 0..count {
+        sink(random_line(&mut Random::of(seed, i)));
+    }
+}
+
+pub fn random_line(random: &mut Random) -> String {
+    match random.below(1000) {
+        0..=19 => malformed::line(random),
+        20..=169 => spoiled(random).line(),
+        _ => valid::case(random).line(),
+    }
+}

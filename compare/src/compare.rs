@@ -1,0 +1,243 @@
+//! Runs the oracle and the program `calls` over the cases, holds their answers against each other and the model's,
+//! and counts.
+
+use std::collections::BTreeMap;
+use std::io::{Read, Write};
+use std::process::{Command, Stdio};
+
+use crate::line::{is_case, parsed, CALLS};
+use crate::model;
+
+/// The programs to be asked, each with its arguments.
+pub struct Programs {
+    pub oracle: Option<Vec<String>>,
+    pub calls: Option<Vec<String>>,
+}
+
+#[derive(Default, Clone)]
+struct Count {
+    compared: u64,
+    differing: u64,
+}
+
+impl Count {
+    fn add(&mut self, agree: bool) {
+        self.compared += 1;
+        self.differing += !agree as u64;
+    }
+}
+
+#[derive(Default, Clone)]
+struct Tally {
+    cases: u64,
+    rust_model: Count,
+    calls_model: Count,
+    calls_rust: Count,
+}
+
+#[derive(Default)]
+pub struct Run {
+    tallies: BTreeMap<&'static str, Tally>,
+    kinds: BTreeMap<String, u64>,
+    waiting: Vec<String>,
+    bytes: usize,
+    shown: usize,
+}
+
+const LINES_AT_ONCE: usize = 20_000;
+const BYTES_AT_ONCE: usize = 16_000_000;
+const SHOWN: usize = 20;
+
+/// The answers of a program to some lines, one each; one that stops early leaves the rest without.
+pub fn asked(program: &[String], lines: &[&str]) -> Vec<String> {
+    let mut child = Command::new(&program[0])
+        .args(&program[1..])
+        .stdin(Stdio::piped())
+        .stdout(Stdio::piped())
+        .spawn()
+        .unwrap_or_else(|e| panic!("{}: {e}", program[0]));
+    let mut input = child.stdin.take().expect("standard input");
+    let text = lines.join("\n") + "\n";
+    let mut out = vec![];
+    std::thread::scope(|scope| {
+        // A program that ended early closes its input; its missing answers tell.
+        scope.spawn(move || {
+            let _ = input.write_all(text.as_bytes());
+        });
+        child.stdout.take().expect("standard output").read_to_end(&mut out).expect("answers");
+    });
+    let status = child.wait().expect("the program's end");
+    if !status.success() {
+        println!("{} ended with {status}", program.join(" "));
+    }
+    let mut answers: Vec<String> = String::from_utf8_lossy(&out).lines().map(str::to_string).collect();
+    if answers.len() != lines.len() {
+        println!("{}: {} lines, {} answers", program.join(" "), lines.len(), answers.len());
+    }
+    answers.resize(lines.len(), "(no answer)".to_string());
+    answers
+}
+
+/// Whether the Rust has something to say to a case that the model answers so: all that is not refused, refusals 8 and
+/// 12, which arise in the work, and of the checker the rows of a full replay.
+pub fn rust_answers(model: &str) -> bool {
+    let works = model.starts_with("ok ") || model == "none" || model.starts_with("refuse 8 ") || model == "refuse 12";
+    works && !model.starts_with("ok bad ")
+}
+
+/// Whether an answer agrees with the Rust's.
+pub fn agrees_with_rust(answer: &str, rust: &str) -> bool {
+    if let Some(rows) = rust.strip_prefix("replay ") {
+        return answer.starts_with("ok ") && answer.ends_with(&format!(" {rows}"));
+    }
+    if answer == "refuse 12" {
+        return not_finite(rust);
+    }
+    answer == rust
+}
+
+/// Whether the Rust's element is infinite or no number.
+fn not_finite(rust: &str) -> bool {
+    let parts = rust.strip_prefix("ok ").unwrap_or("").split(' ');
+    parts.map(|bits| u64::from_str_radix(bits, 16)).any(|bits| bits.is_ok_and(|bits| !f64::from_bits(bits).is_finite()))
+}
+
+fn name_of(line: &str) -> &'static str {
+    parsed(line).map_or("not of the form", |case| case.call)
+}
+
+/// The kind of an answer: its words up to the first number that varies.
+fn kind_of(answer: &str) -> String {
+    let words: Vec<&str> = answer.split(' ').collect();
+    match words[..] {
+        ["refuse", number, ..] => format!("refuse {number}"),
+        ["ok", verdict @ ("bad" | "differs" | "notreduced" | "yes"), ..] => format!("ok {verdict}"),
+        _ => {
+            if answer == "bad line" {
+                answer.to_string()
+            } else {
+                words[0].to_string()
+            }
+        }
+    }
+}
+
+fn short(text: &str) -> String {
+    if text.len() <= 300 {
+        text.to_string()
+    } else {
+        format!("{}... ({} bytes)", &text[..300], text.len())
+    }
+}
+
+impl Run {
+    pub fn put(&mut self, programs: &Programs, line: String) {
+        if !is_case(&line) {
+            return;
+        }
+        self.bytes += line.len();
+        self.waiting.push(line);
+        if self.waiting.len() >= LINES_AT_ONCE || self.bytes >= BYTES_AT_ONCE {
+            self.work_off(programs);
+        }
+    }
+
+    pub fn work_off(&mut self, programs: &Programs) {
+        let lines = std::mem::take(&mut self.waiting);
+        self.bytes = 0;
+        if lines.is_empty() {
+            return;
+        }
+        let model: Vec<String> = lines.iter().map(|line| model::answer(line)).collect();
+        let rust = rust_column(programs, &lines, &model);
+        let every: Vec<&str> = lines.iter().map(String::as_str).collect();
+        let calls = programs.calls.as_ref().map(|program| asked(program, &every));
+        for (i, line) in lines.iter().enumerate() {
+            self.judge(line, &model[i], rust[i].as_deref(), calls.as_ref().map(|answers| answers[i].as_str()));
+        }
+    }
+
+    fn judge(&mut self, line: &str, model: &str, rust: Option<&str>, calls: Option<&str>) {
+        *self.kinds.entry(kind_of(model)).or_default() += 1;
+        let tally = self.tallies.entry(name_of(line)).or_default();
+        tally.cases += 1;
+        let mut agree = true;
+        if let Some(rust) = rust {
+            agree &= counted(&mut tally.rust_model, agrees_with_rust(model, rust));
+        }
+        if let Some(calls) = calls {
+            agree &= counted(&mut tally.calls_model, calls == model);
+            if let Some(rust) = rust {
+                agree &= counted(&mut tally.calls_rust, agrees_with_rust(calls, rust));
+            }
+        }
+        if !agree {
+            self.show(line, model, rust, calls);
+        }
+    }
+
+    fn show(&mut self, line: &str, model: &str, rust: Option<&str>, calls: Option<&str>) {
+        self.shown += 1;
+        if self.shown > SHOWN {
+            return;
+        }
+        println!("differs: {}", short(line));
+        println!("  model: {}", short(model));
+        println!("  Rust:  {}", short(rust.unwrap_or("(not asked)")));
+        println!("  calls: {}", short(calls.unwrap_or("(not asked)")));
+    }
+
+    /// Prints the table; the number of cases with a difference.
+    pub fn report(&self) -> usize {
+        println!("| call | cases | Rust and model | differ | calls and model | differ | calls and Rust | differ |");
+        println!("|---|---:|---:|---:|---:|---:|---:|---:|");
+        let names = CALLS.iter().map(|call| call.0).chain(["not of the form"]);
+        let mut sum = Tally::default();
+        for name in names {
+            let tally = self.tallies.get(name).cloned().unwrap_or_default();
+            print_row(name, &tally);
+            add(&mut sum, &tally);
+        }
+        print_row("all", &sum);
+        let kinds: Vec<String> = self.kinds.iter().map(|(kind, count)| format!("{kind}: {count}")).collect();
+        println!("answers of the model: {}", kinds.join(", "));
+        println!("cases with a difference: {}", self.shown);
+        self.shown
+    }
+}
+
+fn counted(count: &mut Count, agree: bool) -> bool {
+    count.add(agree);
+    agree
+}
+
+/// The Rust's answers, nothing where it is not asked.
+fn rust_column(programs: &Programs, lines: &[String], model: &[String]) -> Vec<Option<String>> {
+    let mut out = vec![None; lines.len()];
+    if let Some(program) = &programs.oracle {
+        let places: Vec<usize> = (0..lines.len()).filter(|i| rust_answers(&model[*i])).collect();
+        let chosen: Vec<&str> = places.iter().map(|i| lines[*i].as_str()).collect();
+        let answers = asked(program, &chosen);
+        places.iter().zip(answers).for_each(|(i, answer)| out[*i] = Some(answer));
+    }
+    out
+}
+
+fn print_row(name: &str, tally: &Tally) {
+    let pair = |count: &Count| format!("{} | {}", count.compared, count.differing);
+    let (a, b, c) = (pair(&tally.rust_model), pair(&tally.calls_model), pair(&tally.calls_rust));
+    println!("| {name} | {} | {a} | {b} | {c} |", tally.cases);
+}
+
+fn add(sum: &mut Tally, tally: &Tally) {
+    sum.cases += tally.cases;
+    let pairs = [
+        (&mut sum.rust_model, &tally.rust_model),
+        (&mut sum.calls_model, &tally.calls_model),
+        (&mut sum.calls_rust, &tally.calls_rust),
+    ];
+    for (to, from) in pairs {
+        to.compared += from.compared;
+        to.differing += from.differing;
+    }
+}

@@ -1,0 +1,587 @@
+//! What makes a call one to be refused. Each fault is one change to a call that has none, so that refusals can be
+//! asked for alone and in pairs.
+
+use crate::line::{Case, Field};
+use crate::random::Random;
+use crate::reduction::{reduce, Lists};
+use crate::rows::{unpacked, words_for, Set};
+
+/// A change, and whether it could be made.
+pub type Fault = fn(&mut Case, &mut Random) -> bool;
+
+/// All faults that make sense for a call, each with the number it alone gives.
+pub fn of_call(call: &str) -> Vec<(u8, Fault)> {
+    match call {
+        "phase1" | "act1" => vec![],
+        "elemf" => [TERMS, FLOATS].concat(),
+        "elemi" => TERMS.to_vec(),
+        "pair" | "check" => [SETS, SECOND, own(call)].concat(),
+        _ => [SETS, own(call)].concat(),
+    }
+}
+
+const SETS: &[(u8, Fault)] = &[
+    (1, more_qubits),
+    (1, many_qubits),
+    (2, more_rows),
+    (3, x_longer),
+    (3, x_shorter),
+    (3, z_longer),
+    (3, z_shorter),
+    (4, spare_x),
+    (4, spare_z),
+    (5, phase_of_4),
+    (5, phase_of_255),
+];
+
+const SECOND: &[(u8, Fault)] = &[
+    (2, second_more_rows),
+    (3, second_x_longer),
+    (3, second_z_shorter),
+    (3, second_one_row_more),
+    (4, second_spare_x),
+    (4, second_spare_z),
+    (5, second_phase_of_4),
+];
+
+const TERMS: &[(u8, Fault)] = &[
+    (1, no_qubits),
+    (1, qubits_65),
+    (1, many_qubits),
+    (3, z_longer),
+    (3, z_shorter),
+    (3, re_longer),
+    (3, re_shorter),
+    (3, im_longer),
+    (3, im_shorter),
+    (4, spare_in_last_x),
+    (4, spare_in_a_z),
+    (4, spare_in_bra),
+    (4, spare_in_ket),
+    (10, x_falls),
+    (10, x_falls_at_end),
+];
+
+const FLOATS: &[(u8, Fault)] = &[(11, not_finite_re), (11, not_finite_im), (12, sum_too_large)];
+
+fn own(call: &str) -> &'static [(u8, Fault)] {
+    match call {
+        "get" | "set" => &[(6, row_too_large), (6, row_far_too_large), (6, second_number_too_large)],
+        "count" | "central" => &[(6, row_too_large), (6, row_far_too_large)],
+        "phase" | "comm" | "imul" => &[(6, row_too_large), (6, row_far_too_large), (6, second_row_too_large)],
+        "act" => &[(3, state_longer), (3, state_shorter), (4, spare_in_state), (6, row_too_large)],
+        "matrix" => &[(3, out_longer), (3, out_shorter)],
+        "pair" => {
+            &[(2, third_more_rows), (3, third_x_longer), (3, third_z_longer), (3, third_p_longer), (3, third_p_shorter)]
+        }
+        "reduce" => {
+            &[(6, column_too_large), (6, listed_too_large), (6, extra_too_large), (7, listed_twice), (8, log_short)]
+        }
+        "reduceall" => &[(8, log_short)],
+        _ => &[
+            (6, column_too_large),
+            (6, listed_too_large),
+            (6, extra_too_large),
+            (7, listed_twice),
+            (9, odd_longer),
+            (9, odd_shorter),
+        ],
+    }
+}
+
+// ---- access to fields
+
+fn n_of(case: &Case) -> usize {
+    case.number(0) as usize
+}
+
+fn words(case: &mut Case, i: usize) -> &mut Vec<u64> {
+    match &mut case.fields[i] {
+        Field::Words(v) => v,
+        _ => unreachable!("field {i} of {}", case.call),
+    }
+}
+
+fn bytes(case: &mut Case, i: usize) -> &mut Vec<u8> {
+    match &mut case.fields[i] {
+        Field::Bytes(v) => v,
+        _ => unreachable!("field {i} of {}", case.call),
+    }
+}
+
+fn shorts(case: &mut Case, i: usize) -> &mut Vec<u16> {
+    match &mut case.fields[i] {
+        Field::Shorts(v) => v,
+        _ => unreachable!("field {i} of {}", case.call),
+    }
+}
+
+fn set_number(case: &mut Case, i: usize, to: u64) -> bool {
+    let changed = case.number(i) != to;
+    case.fields[i] = match case.fields[i] {
+        Field::Word(_) => Field::Word(to),
+        _ => Field::Number(to),
+    };
+    changed
+}
+
+/// Where the call's second set starts.
+fn second(case: &Case) -> usize {
+    if case.call == "pair" {
+        4
+    } else {
+        8
+    }
+}
+
+fn longer(list: &mut Vec<u64>) -> bool {
+    list.push(0);
+    true
+}
+
+fn shorter(list: &mut Vec<u64>) -> bool {
+    list.pop().is_some()
+}
+
+// ---- 1
+
+/// 1,025 qubits with words to match.
+fn more_qubits(case: &mut Case, _: &mut Random) -> bool {
+    let w = words_for(n_of(case));
+    let fits = |case: &Case, i: usize| case.words(i).len() == case.bytes(3).len() * w;
+    if n_of(case) > 1024 || !fits(case, 1) || !fits(case, 2) {
+        return false;
+    }
+    refit(case, 1, w);
+    match case.call {
+        "pair" => {
+            refit(case, 4, w);
+            let m = case.bytes(3).len() as u64;
+            case.fields[7] = Field::Lengths([17 * m, 17 * m, m]);
+        }
+        "check" => refit(case, 8, w),
+        "act" => words(case, 5).resize(17, 0),
+        _ => {}
+    }
+    set_number(case, 0, 1025)
+}
+
+fn refit(case: &mut Case, at: usize, w: usize) {
+    for i in [at, at + 1] {
+        let rows = bytes(case, at + 2).len();
+        let old = words(case, i).clone();
+        let row = |r: usize| {
+            let mut row: Vec<u64> = old.iter().skip(r * w).take(w).copied().collect();
+            row.resize(17, 0);
+            row
+        };
+        *words(case, i) = (0..rows).flat_map(row).collect();
+    }
+}
+
+fn many_qubits(case: &mut Case, random: &mut Random) -> bool {
+    let n = random.pick(&[1025, 1026, 4096, 65535, 65536, 1 << 32, u64::MAX]);
+    set_number(case, 0, n)
+}
+
+fn no_qubits(case: &mut Case, _: &mut Random) -> bool {
+    set_number(case, 0, 0)
+}
+
+fn qubits_65(case: &mut Case, _: &mut Random) -> bool {
+    set_number(case, 0, 65)
+}
+
+// ---- 2
+
+fn to_257_rows(case: &mut Case, at: usize) -> bool {
+    let w = words_for(n_of(case).min(1024));
+    bytes(case, at + 2).resize(257, 0);
+    words(case, at).resize(257 * w, 0);
+    words(case, at + 1).resize(257 * w, 0);
+    true
+}
+
+fn more_rows(case: &mut Case, random: &mut Random) -> bool {
+    if matches!(case.call, "pair" | "check") {
+        let at = second(case);
+        to_257_rows(case, at);
+    }
+    if case.call == "pair" {
+        third_more_rows(case, random);
+    }
+    if case.call == "matrix" {
+        set_number(case, 4, 257 * 5);
+    }
+    to_257_rows(case, 1)
+}
+
+fn second_more_rows(case: &mut Case, _: &mut Random) -> bool {
+    let at = second(case);
+    to_257_rows(case, at)
+}
+
+fn third_more_rows(case: &mut Case, _: &mut Random) -> bool {
+    let w = words_for(n_of(case).min(1024)) as u64;
+    case.fields[7] = Field::Lengths([257 * w, 257 * w, 257]);
+    true
+}
+
+// ---- 3
+
+fn x_longer(case: &mut Case, _: &mut Random) -> bool {
+    longer(words(case, 1))
+}
+
+fn x_shorter(case: &mut Case, _: &mut Random) -> bool {
+    shorter(words(case, 1))
+}
+
+fn z_longer(case: &mut Case, _: &mut Random) -> bool {
+    longer(words(case, 2))
+}
+
+fn z_shorter(case: &mut Case, _: &mut Random) -> bool {
+    shorter(words(case, 2))
+}
+
+fn second_x_longer(case: &mut Case, _: &mut Random) -> bool {
+    let at = second(case);
+    longer(words(case, at))
+}
+
+fn second_z_shorter(case: &mut Case, _: &mut Random) -> bool {
+    let at = second(case);
+    shorter(words(case, at + 1))
+}
+
+fn second_one_row_more(case: &mut Case, _: &mut Random) -> bool {
+    let (at, w) = (second(case), words_for(n_of(case).min(1024)));
+    if bytes(case, at + 2).len() > 256 {
+        return false;
+    }
+    bytes(case, at + 2).push(0);
+    for i in [at, at + 1] {
+        let list = words(case, i);
+        list.resize(list.len() + w, 0);
+    }
+    true
+}
+
+fn part_longer(case: &mut Case, i: usize) -> bool {
+    match &mut case.fields[i] {
+        Field::Words(v) => v.push(0),
+        Field::Ints(v) => v.push(0),
+        _ => unreachable!("field {i} of {}", case.call),
+    }
+    true
+}
+
+fn part_shorter(case: &mut Case, i: usize) -> bool {
+    match &mut case.fields[i] {
+        Field::Words(v) => v.pop().is_some(),
+        Field::Ints(v) => v.pop().is_some(),
+        _ => unreachable!("field {i} of {}", case.call),
+    }
+}
+
+fn re_longer(case: &mut Case, _: &mut Random) -> bool {
+    part_longer(case, 3)
+}
+
+fn re_shorter(case: &mut Case, _: &mut Random) -> bool {
+    part_shorter(case, 3)
+}
+
+fn im_longer(case: &mut Case, _: &mut Random) -> bool {
+    part_longer(case, 4)
+}
+
+fn im_shorter(case: &mut Case, _: &mut Random) -> bool {
+    part_shorter(case, 4)
+}
+
+fn state_longer(case: &mut Case, _: &mut Random) -> bool {
+    longer(words(case, 5))
+}
+
+fn state_shorter(case: &mut Case, _: &mut Random) -> bool {
+    shorter(words(case, 5))
+}
+
+fn out_longer(case: &mut Case, _: &mut Random) -> bool {
+    let to = case.number(4) + 1;
+    set_number(case, 4, to)
+}
+
+fn out_shorter(case: &mut Case, _: &mut Random) -> bool {
+    let to = case.number(4).saturating_sub(1);
+    set_number(case, 4, to)
+}
+
+fn third(case: &mut Case, i: usize, by: i64) -> bool {
+    let Field::Lengths(lengths) = &mut case.fields[7] else { unreachable!("the lengths of pair") };
+    let old = lengths[i];
+    lengths[i] = old.saturating_add_signed(by);
+    lengths[i] != old
+}
+
+fn third_x_longer(case: &mut Case, _: &mut Random) -> bool {
+    third(case, 0, 1)
+}
+
+fn third_z_longer(case: &mut Case, _: &mut Random) -> bool {
+    third(case, 1, 1)
+}
+
+fn third_p_longer(case: &mut Case, _: &mut Random) -> bool {
+    third(case, 2, 1)
+}
+
+fn third_p_shorter(case: &mut Case, _: &mut Random) -> bool {
+    third(case, 2, -1)
+}
+
+// ---- 4
+
+/// Sets a bit at n or above in the last word of a row of w words.
+fn spare_bit(list: &mut [u64], n: usize, random: &mut Random) -> bool {
+    let w = words_for(n);
+    if n % 64 == 0 || w == 0 || list.len() < w {
+        return false;
+    }
+    let row = random.below(list.len() / w);
+    let q = if random.chance(600) { n % 64 } else { random.within(n % 64, 63) };
+    list[row * w + w - 1] |= 1 << q;
+    true
+}
+
+fn spare_x(case: &mut Case, random: &mut Random) -> bool {
+    let n = n_of(case);
+    spare_bit(words(case, 1), n, random)
+}
+
+fn spare_z(case: &mut Case, random: &mut Random) -> bool {
+    let n = n_of(case);
+    spare_bit(words(case, 2), n, random)
+}
+
+fn second_spare_x(case: &mut Case, random: &mut Random) -> bool {
+    let (n, at) = (n_of(case), second(case));
+    spare_bit(words(case, at), n, random)
+}
+
+fn second_spare_z(case: &mut Case, random: &mut Random) -> bool {
+    let (n, at) = (n_of(case), second(case));
+    spare_bit(words(case, at + 1), n, random)
+}
+
+fn spare_in_state(case: &mut Case, random: &mut Random) -> bool {
+    let n = n_of(case);
+    spare_bit(words(case, 5), n, random)
+}
+
+/// In the last X, where it does not make the X words fall.
+fn spare_in_last_x(case: &mut Case, _: &mut Random) -> bool {
+    let n = n_of(case);
+    match words(case, 1).last_mut() {
+        Some(last) if n < 64 => {
+            *last |= 1 << 63;
+            true
+        }
+        _ => false,
+    }
+}
+
+fn spare_in_a_z(case: &mut Case, random: &mut Random) -> bool {
+    let n = n_of(case);
+    n < 64 && spare_bit(words(case, 2), n, random)
+}
+
+fn spare_in_number(case: &mut Case, i: usize) -> bool {
+    let n = n_of(case);
+    n < 64 && set_number(case, i, case.number(i) | 1 << n)
+}
+
+fn spare_in_bra(case: &mut Case, _: &mut Random) -> bool {
+    spare_in_number(case, 5)
+}
+
+fn spare_in_ket(case: &mut Case, _: &mut Random) -> bool {
+    spare_in_number(case, 6)
+}
+
+// ---- 5
+
+fn phase_to(list: &mut [u8], to: u8, random: &mut Random) -> bool {
+    if list.is_empty() {
+        return false;
+    }
+    list[random.below(list.len())] = to;
+    true
+}
+
+fn phase_of_4(case: &mut Case, random: &mut Random) -> bool {
+    phase_to(bytes(case, 3), 4, random)
+}
+
+fn phase_of_255(case: &mut Case, random: &mut Random) -> bool {
+    phase_to(bytes(case, 3), 255, random)
+}
+
+fn second_phase_of_4(case: &mut Case, random: &mut Random) -> bool {
+    let at = second(case);
+    phase_to(bytes(case, at + 2), 4, random)
+}
+
+// ---- 6 and 7
+
+fn row_too_large(case: &mut Case, _: &mut Random) -> bool {
+    let m = bytes(case, 3).len() as u64;
+    set_number(case, 4, m)
+}
+
+fn row_far_too_large(case: &mut Case, _: &mut Random) -> bool {
+    set_number(case, 4, 65535)
+}
+
+fn second_row_too_large(case: &mut Case, _: &mut Random) -> bool {
+    let m = bytes(case, 3).len() as u64;
+    set_number(case, 5, m)
+}
+
+fn second_number_too_large(case: &mut Case, _: &mut Random) -> bool {
+    let n = case.number(0);
+    set_number(case, 5, n.min(65535))
+}
+
+fn into_list(case: &mut Case, i: usize, item: usize, random: &mut Random) -> bool {
+    let list = shorts(case, i);
+    let at = random.below(list.len() + 1);
+    list.insert(at, item.min(65535) as u16);
+    true
+}
+
+fn column_too_large(case: &mut Case, random: &mut Random) -> bool {
+    let n = n_of(case).min(30000);
+    let by = random.pick(&[0, 0, 1, 64]);
+    into_list(case, 4, 2 * n + by, random)
+}
+
+fn listed_too_large(case: &mut Case, random: &mut Random) -> bool {
+    let m = bytes(case, 3).len();
+    into_list(case, 5, m, random)
+}
+
+fn extra_too_large(case: &mut Case, random: &mut Random) -> bool {
+    let m = bytes(case, 3).len();
+    into_list(case, 6, m, random)
+}
+
+fn listed_twice(case: &mut Case, random: &mut Random) -> bool {
+    if shorts(case, 5).is_empty() {
+        return false;
+    }
+    let list = shorts(case, 5);
+    let item = list[random.below(list.len())];
+    into_list(case, 5, item as usize, random)
+}
+
+// ---- 8 and 9
+
+/// A log one entry too short, where the call is sound enough to know.
+fn log_short(case: &mut Case, _: &mut Random) -> bool {
+    let n = n_of(case);
+    let set = Set { x: case.words(1).to_vec(), z: case.words(2).to_vec(), p: case.bytes(3).to_vec() };
+    let fits = n <= 1024 && [&set.x, &set.z].iter().all(|part| part.len() == set.p.len() * words_for(n));
+    if !fits || set.p.iter().any(|p| *p > 3) {
+        return false;
+    }
+    let needed = needed(case, n, &set);
+    let last = case.fields.len() - 1;
+    needed > 0 && set_number(case, last, 2 * needed as u64 - 1)
+}
+
+fn needed(case: &Case, n: usize, set: &Set) -> usize {
+    let (order, listed): (Vec<u16>, Vec<u16>) = ((0..2 * n as u16).collect(), (0..set.p.len() as u16).collect());
+    let lists = match case.call {
+        "reduce" => Lists { order: case.shorts(4), listed: case.shorts(5), extra: case.shorts(6) },
+        _ => Lists { order: &order, listed: &listed, extra: &[] },
+    };
+    let rows = |list: &[u16]| list.iter().all(|row| (*row as usize) < set.p.len());
+    let columns = lists.order.iter().all(|column| (*column as usize) < 2 * n);
+    if !columns || !rows(lists.listed) || !rows(lists.extra) {
+        return 0;
+    }
+    reduce(&mut unpacked(n, set), lists, usize::MAX).log.len()
+}
+
+fn odd_longer(case: &mut Case, _: &mut Random) -> bool {
+    shorts(case, 7).push(0);
+    shorts(case, 7).len() % 2 == 1
+}
+
+fn odd_shorter(case: &mut Case, _: &mut Random) -> bool {
+    shorts(case, 7).pop().is_some() && shorts(case, 7).len() % 2 == 1
+}
+
+// ---- 10 to 12
+
+fn x_falls(case: &mut Case, random: &mut Random) -> bool {
+    let x = words(case, 1);
+    let steps: Vec<usize> = (1..x.len()).filter(|i| x[i - 1] < x[*i]).collect();
+    if steps.is_empty() {
+        return false;
+    }
+    let at = random.pick(&steps);
+    x.swap(at - 1, at);
+    true
+}
+
+fn x_falls_at_end(case: &mut Case, _: &mut Random) -> bool {
+    let x = words(case, 1);
+    let last = x.len().wrapping_sub(1);
+    if x.len() < 2 || x[last - 1] == 0 {
+        return false;
+    }
+    x[last] = 0;
+    true
+}
+
+fn not_finite(case: &mut Case, i: usize, random: &mut Random) -> bool {
+    let to = random.pick(&[
+        f64::INFINITY.to_bits(),
+        f64::NEG_INFINITY.to_bits(),
+        0x7ff8_0000_0000_0000,
+        0x7ff0_0000_0000_0001,
+        0xffff_ffff_ffff_ffff,
+    ]);
+    let list = words(case, i);
+    if list.is_empty() {
+        return false;
+    }
+    let at = random.below(list.len());
+    list[at] = to;
+    true
+}
+
+fn not_finite_re(case: &mut Case, random: &mut Random) -> bool {
+    not_finite(case, 3, random)
+}
+
+fn not_finite_im(case: &mut Case, random: &mut Random) -> bool {
+    not_finite(case, 4, random)
+}
+
+/// The largest parts throughout, in a block of identities or of Z.
+fn sum_too_large(case: &mut Case, random: &mut Random) -> bool {
+    if case.words(1).len() < 2 {
+        return false;
+    }
+    let i = random.pick(&[3, 4]);
+    words(case, i).fill(f64::MAX.to_bits());
+    words(case, 2).fill(0);
+    let block = case.words(1)[0];
+    set_number(case, 5, case.number(6) ^ block);
+    true
+}

@@ -1,0 +1,444 @@
+//! The fixed list: some thousands of lines with their answers, the Rust's where it has one and the model's elsewhere.
+
+use crate::compare::{agrees_with_rust, asked, rust_answers};
+use crate::line::{is_case, Case, Field, CALLS};
+use crate::model;
+use crate::random::Random;
+use crate::rows::{packed, Pauli, Row, Set};
+use crate::small::{over_sets, plain_terms, singles_and_pairs};
+use crate::{malformed, valid};
+
+/// Writes the list and its answers; the number of cases where Rust and model differ.
+pub fn write(oracle: Option<Vec<String>>, cases: &str, answers: &str) -> usize {
+    let lines = list();
+    let asked_for: Vec<&str> = lines.iter().map(String::as_str).filter(|line| is_case(line)).collect();
+    let model: Vec<String> = asked_for.iter().map(|line| model::answer(line)).collect();
+    let places: Vec<usize> = (0..model.len()).filter(|i| oracle.is_some() && rust_answers(&model[*i])).collect();
+    let chosen: Vec<&str> = places.iter().map(|i| asked_for[*i]).collect();
+    let rust = oracle.map_or(vec![], |program| asked(&program, &chosen));
+    let mut out = model.clone();
+    let mut differing = 0;
+    for (i, rust) in places.iter().zip(rust) {
+        if !agrees_with_rust(&model[*i], &rust) {
+            println!("differs: {}\n  model: {}\n  Rust:  {rust}", asked_for[*i], model[*i]);
+            differing += 1;
+        } else if !rust.starts_with("replay ") && model[*i] != "refuse 12" {
+            out[*i] = rust;
+        }
+    }
+    std::fs::write(cases, lines.join("\n") + "\n").expect("the file of cases");
+    std::fs::write(answers, out.join("\n") + "\n").expect("the file of answers");
+    println!("{} cases, {} of them compared with the Rust, {differing} differ", out.len(), places.len());
+    differing
+}
+
+/// All lines, comments included.
+fn list() -> Vec<String> {
+    let mut out = vec![];
+    numbers_at_each_end(&mut out);
+    limits(&mut out);
+    edges(&mut out);
+    reductions(&mut out);
+    checks(&mut out);
+    elements(&mut out);
+    all_small(&mut out);
+    refusals(&mut out);
+    not_of_the_form(&mut out);
+    random(&mut out);
+    out
+}
+
+fn group(out: &mut Vec<String>, title: &str, lines: &[&str]) {
+    out.push(format!("# {title}"));
+    out.extend(lines.iter().map(|line| line.to_string()));
+}
+
+fn numbers_at_each_end(out: &mut Vec<String>) {
+    group(
+        out,
+        "P1 to P3: XY, YX, ZX",
+        &[
+            "phase 1 1,1 0,1 0,0 0 1",
+            "imul 1 1,1 0,1 0,0 0 1",
+            "imul 1 1,1 1,0 0,0 0 1",
+            "imul 1 0,1 1,0 0,0 0 1",
+            "phase1 1 0 1 1",
+            "phase1 1 1 1 0",
+            "phase1 0 1 1 0",
+        ],
+    );
+    group(out, "P4, P5: Y and Z on 1", &["act 1 1 1 0 0 1", "act 1 0 1 0 0 1", "act1 1 1 1", "act1 0 1 1"]);
+    group(out, "P6: the identity counted", &["count 65 0,0 0,0 0 0", "count 64 0 0 0 0", "count 0 - - 0 0"]);
+    group(
+        out,
+        "P7: XX against ZZ, XI against ZZ",
+        &["comm 2 3,0 0,3 0,0 0 1", "comm 2 1,0 0,3 0,0 0 1", "matrix 2 3,0,1 0,3,0 0,0,0 3"],
+    );
+    group(out, "P8: a row squared", &["imul 1 1 0 3 0 0"]);
+    out.push("# P9, P10: lengths of the log from none to more than needed".to_string());
+    for units in [0, 1, 2, 3, 11, 12, 13, 14, 15, 16, 17, 100] {
+        out.push(format!("reduce 2 0,3,1 1,0,1 0,0,0 0,1,2,3 0,1,2 - {units}"));
+        out.push(format!("reduceall 2 0,3,1 1,0,1 0,0,0 {units}"));
+    }
+    group(
+        out,
+        "P11, P12",
+        &[
+            "elemi 2 0,1,1,2 1,1,0,0 3,2,5,7 0,0,0,0 0 1",
+            "elemi 2 0,1,1,2 1,1,0,0 3,2,5,7 0,0,0,0 1 1",
+            "elemi 2 0,1,1,2 1,1,0,0 3,2,5,7 0,0,0,0 3 0",
+            "elemf 2 0,1,1,2 1,1,0,0 4008000000000000,4000000000000000,4014000000000000,401c000000000000 0,0,0,0 0 1",
+            "elemf 2 0,1,1,2 1,1,0,0 4008000000000000,4000000000000000,4014000000000000,401c000000000000 0,0,0,0 1 1",
+            "elemf 2 0,1,1,2 1,1,0,0 4008000000000000,4000000000000000,4014000000000000,401c000000000000 0,0,0,0 3 0",
+            "elemi 1 0 1 -2147483648 0 1 1",
+        ],
+    );
+}
+
+/// Rows that share no letter: row r holds X at qubit r, Z at the next, and the phase r mod 4.
+fn ladder(n: usize, m: usize) -> Set {
+    let row = |r: usize| {
+        let mut paulis = vec![Pauli::I; n];
+        if n > 0 {
+            paulis[(r + 1) % n] = Pauli::Z;
+            paulis[r % n] = Pauli::X;
+        }
+        Row { paulis, phase: (r % 4) as u8 }
+    };
+    packed(n, &(0..m).map(row).collect::<Vec<_>>())
+}
+
+fn with_numbers(call: &str, n: usize, set: &Set, numbers: &[usize]) -> String {
+    let more = numbers.iter().map(|v| Field::Number(*v as u64)).collect();
+    valid::call_on(call, n, set, more).line()
+}
+
+fn limits(out: &mut Vec<String>) {
+    out.push("# 1,024 qubits and 1,025; qubit n; bit n set; 256 rows and 257".to_string());
+    for n in [1023, 1024, 1025] {
+        let set = ladder(n, 1);
+        out.push(with_numbers("count", n, &set, &[0]));
+        for q in [0, 1, 63, 64, 1022, 1023, 1024, 1025] {
+            out.push(with_numbers("get", n, &set, &[0, q]));
+        }
+    }
+    let mut high = ladder(1023, 1);
+    high.x[15] |= 1 << 63;
+    out.push(with_numbers("count", 1023, &high, &[0]));
+    for m in [255, 256, 257] {
+        let set = ladder(1, m);
+        for call in ["count", "central"] {
+            out.push(with_numbers(call, 1, &set, &[m - 1]));
+        }
+        out.push(with_numbers("imul", 1, &set, &[m - 1, 0]));
+        out.push(with_numbers("matrix", 1, &set, &[m * m.div_ceil(64)]));
+        out.push(with_numbers("reduceall", 1, &set, &[2 * m]));
+    }
+    let largest = ladder(1024, 256);
+    out.push(with_numbers("central", 1024, &largest, &[255]));
+    out.push(with_numbers("reduceall", 1024, &largest, &[2000]));
+}
+
+/// Every call over rows at the edges of words.
+fn edges(out: &mut Vec<String>) {
+    out.push("# every call at n = 0, 1, 63, 64, 65, 1,024 and 1,025".to_string());
+    let mut random = Random::of(1, 0);
+    for n in [0, 1, 63, 64, 65, 1024, 1025] {
+        let rows = valid::rows(&mut random, n, 3);
+        for (call, kinds) in CALLS.iter().filter(|call| call.1.starts_with("nWWB")) {
+            let few = kinds.contains('S') && n > 100;
+            let rows = if few { rows[..1].to_vec() } else { rows.clone() };
+            let cases = if n > 100 { 1 } else { 3 };
+            for _ in 0..cases {
+                out.push(valid::over_rows(&mut random, call, n, rows.clone()).line());
+            }
+        }
+    }
+    out.push("# qubit n, row m".to_string());
+    for n in [0, 1, 63, 64, 65] {
+        let set = ladder(n, 2);
+        out.push(with_numbers("get", n, &set, &[0, n]));
+        out.push(with_numbers("get", n, &set, &[2, 0]));
+        out.push(with_numbers("phase", n, &set, &[1, 2]));
+        out.push(with_numbers("imul", n, &set, &[2, 1]));
+    }
+}
+
+fn reductions(out: &mut Vec<String>) {
+    group(
+        out,
+        "repeated columns",
+        &[
+            "reduce 2 0,3,1 1,0,1 0,0,0 0,0,1,1,2,3,0,1,2,3 0,1,2 - 100",
+            "reduce 1 1,1 0,1 0,0 0,0,0 0,1 - 100",
+            "reduce 2 3,3,3 0,1,2 1,2,3 1,1 2,0,1 - 100",
+        ],
+    );
+    group(
+        out,
+        "listed rows among the extra ones, extra rows repeated",
+        &[
+            "reduce 2 0,3,1 1,0,1 0,0,0 0,1,2,3 0,1 0,1,2 100",
+            "reduce 2 0,3,1 1,0,1 0,0,0 0,1,2,3 0,1 2,2,2 100",
+            "reduce 2 1,1,1 0,0,3 0,0,0 0,2 1 1,1,0,2,0,2 100",
+            "reduce 2 1,1,1 0,0,3 0,0,0 0,2 - 0,1,2 100",
+            "reduce 1 1,1 0,1 0,1 0,1 1 1,0,1,0 100",
+        ],
+    );
+    group(
+        out,
+        "empty order, empty lists, no rows, no qubits",
+        &[
+            "reduce 2 0,3,1 1,0,1 0,0,0 - 0,1,2 - 100",
+            "reduce 2 0,3,1 1,0,1 0,0,0 0,1,2,3 - - 100",
+            "reduce 2 0,3,1 1,0,1 0,0,0 - - - 0",
+            "reduce 2 - - - 0,1,2,3 - - 0",
+            "reduce 0 - - 1,2,3 - 2,0,1 0,0 0",
+            "reduce 0 - - 1,2,3 0 2,0,1 - 0",
+            "reduceall 0 - - 1,2,3 0",
+            "reduceall 0 - - - 0",
+            "reduceall 2 - - - 5",
+            "reduceall 2 0,0 0,0 1,2 0",
+        ],
+    );
+    group(
+        out,
+        "numbers too large, a listed row repeated",
+        &[
+            "reduce 2 0,3,1 1,0,1 0,0,0 0,4 0,1,2 - 100",
+            "reduce 2 0,3,1 1,0,1 0,0,0 0,1 0,3,2 - 100",
+            "reduce 2 0,3,1 1,0,1 0,0,0 0,1 0,1,2 3 100",
+            "reduce 2 0,3,1 1,0,1 0,0,0 0,65535 0,1,2 - 100",
+            "reduce 2 0,3,1 1,0,1 0,0,0 0,1 0,1,0 - 100",
+            "reduce 2 0,3,1 1,0,1 0,0,0 0,1 2,2 - 0",
+            "reduce 2 0,3,1 1,0,1 0,0,0 - 2,2 - 0",
+        ],
+    );
+}
+
+const START: &str = "2 0,3,1 1,0,1 0,0,0 0,1,2,3 0,1,2 -";
+const LOG: [u16; 14] = [0, 1, 1, 0, 2, 0, 1, 2, 0, 1, 2, 1, 1, 2];
+const CLAIM: &str = "1,2,0 0,0,1 1,3,0";
+
+fn check_of(log: &[u16], claim: &str) -> String {
+    format!("check {START} {} {claim}", crate::line::joined(log))
+}
+
+fn checks(out: &mut Vec<String>) {
+    out.push("# P9's log and rows: accepted".to_string());
+    out.push(check_of(&LOG, CLAIM));
+    out.push("# each unit of the log changed to each row and to numbers of m and more".to_string());
+    for at in 0..LOG.len() {
+        for to in [0, 1, 2, 3, 65535] {
+            let mut log = LOG;
+            log[at] = to;
+            out.push(check_of(&log, CLAIM));
+        }
+    }
+    out.push("# an entry dropped, entries exchanged, the log cut, odd".to_string());
+    for at in 0..7 {
+        out.push(check_of(&[&LOG[..2 * at], &LOG[2 * at + 2..]].concat(), CLAIM));
+        out.push(check_of(&LOG[..2 * at], CLAIM));
+        out.push(check_of(&LOG[..2 * at + 1], CLAIM));
+        if at < 6 {
+            let mut log = LOG;
+            log[2 * at..2 * at + 4].rotate_left(2);
+            out.push(check_of(&log, CLAIM));
+        }
+    }
+    group(
+        out,
+        "a bit or a phase of the claim changed",
+        &[
+            &check_of(&LOG, "0,2,0 0,0,1 1,3,0"),
+            &check_of(&LOG, "1,2,0 0,1,1 1,3,0"),
+            &check_of(&LOG, "1,2,0 0,0,0 1,3,0"),
+            &check_of(&LOG, "1,2,0 0,0,1 0,3,0"),
+            &check_of(&LOG, "1,2,0 0,0,1 1,1,0"),
+            &check_of(&LOG, "1,2,0 0,0,1 1,3,1"),
+            &check_of(&LOG, "1,2,0 0,0,1 1,3,4"),
+            &check_of(&LOG, "1,2,4 0,0,1 1,3,0"),
+            &check_of(&LOG, "1,2 0,0 1,3"),
+        ],
+    );
+    group(
+        out,
+        "not reduced; rows outside of both lists; a pivot row among the extra ones",
+        &[
+            "check 2 0,3,1 1,0,1 0,0,0 0,1,2,3 0,1,2 - - 0,3,1 1,0,1 0,0,0",
+            "check 1 1,1 0,0 0,0 0 0 1 - 1,1 0,0 0,0",
+            "check 1 1,1 0,0 0,0 0 0 - - 1,1 0,0 0,0",
+            "check 1 1,1 0,0 0,0 0 0 0 - 1,1 0,0 0,0",
+            "check 1 1,1 0,0 0,3 0 0 1 1,0 1,0 0,0 0,3",
+            "check 1 1,1 0,0 0,3 0 0 1 0,1 1,0 0,0 0,3",
+            "check 1 1,1 0,0 0,3 0 0,1 - 1,0 1,0 0,0 0,3",
+            "check 1 1,0 0,1 0,3 0,1 1,0 - - 1,0 0,1 0,3",
+            "check 1 1,0 0,1 0,3 1,0 1,0 - - 1,0 0,1 0,3",
+            "check 1 1,0 0,1 0,3 0,0,1 0,1 - - 1,0 0,1 0,3",
+            "check 1 1,0 0,1 0,3 1,1,0 0,1 - - 1,0 0,1 0,3",
+            "check 2 1,1,1 0,0,3 0,0,0 0,2 1 1,1,0,2,0,2 0,1,2,1 0,1,0 0,0,3 0,0,0",
+        ],
+    );
+    group(
+        out,
+        "no qubits, no rows, empty lists",
+        &[
+            "check 0 - - 1,2 - 0,1 - 0,1 - - 3,2",
+            "check 0 - - 1,2 - 0,1 - 0,1 - - 1,2",
+            "check 0 - - - - - - - - - -",
+            "check 2 - - - 0,1 - - - - - -",
+            "check 2 1 1 0 - - - - 1 1 0",
+            "check 2 1 1 0 - - - 0,0 1 1 0",
+            "check 2 1 1 0 - 0,0 - 0 1 1 0",
+            "check 2 1 1 0 4 0 - 0 1 1 0",
+        ],
+    );
+}
+
+/// Elements of one qubit in a block of identities with these bits as real parts.
+fn block_of(bits: &[u64]) -> String {
+    let zeros = vec![0; bits.len()];
+    let fields = [&zeros, &zeros, bits, &zeros].map(|list: &[u64]| Field::Words(list.to_vec()));
+    let fields = [vec![Field::Number(1)], fields.to_vec(), vec![Field::Word(0), Field::Word(0)]].concat();
+    Case::new("elemf", fields).line()
+}
+
+fn elements(out: &mut Vec<String>) {
+    out.push(
+        "# floats: zeros of both signs, subnormals, the largest once and twice, cancelling sums, order".to_string(),
+    );
+    let (minus_zero, largest, least) = (1u64 << 63, f64::MAX.to_bits(), 1u64);
+    let floats = |list: &[f64]| list.iter().map(|v| v.to_bits()).collect::<Vec<_>>();
+    let blocks: Vec<Vec<u64>> = vec![
+        vec![minus_zero],
+        vec![minus_zero, minus_zero],
+        vec![least, minus_zero | least],
+        vec![least, least, 0x000f_ffff_ffff_ffff],
+        vec![largest],
+        vec![largest, largest],
+        vec![minus_zero | largest, minus_zero | largest],
+        vec![largest, minus_zero | largest],
+        vec![largest, minus_zero | largest, largest],
+        vec![largest, largest, minus_zero | largest],
+        floats(&[1e16, 1.0, -1e16]),
+        floats(&[1e16, -1e16, 1.0]),
+        floats(&[0.1, 0.2, 0.3]),
+        floats(&[0.3, 0.2, 0.1]),
+        vec![0x7ff8_0000_0000_0000],
+        vec![0x7ff0_0000_0000_0000],
+        vec![0xfff0_0000_0000_0000, 0],
+    ];
+    out.extend(blocks.iter().map(|bits| block_of(bits)));
+    group(
+        out,
+        "not finite outside of the block; the imaginary part too large; both exponents of Y",
+        &[
+            "elemf 1 0,1 0,0 0,7ff8000000000001 0,0 0 0",
+            "elemf 1 0,1 0,0 7ff0000000000000,0 0,0 0 1",
+            "elemf 1 0,1 0,0 0,0 0,fff0000000000000 0 0",
+            "elemf 1 0,0 0,0 0,0 7fefffffffffffff,7fefffffffffffff 0 0",
+            "elemf 1 1,1 1,1 7fefffffffffffff,7fefffffffffffff 0,0 1 0",
+            "elemf 1 1,1 1,1 7fefffffffffffff,7fefffffffffffff 0,0 0 1",
+            "elemf 1 1 1 3ff0000000000000 4000000000000000 1 0",
+            "elemf 1 1 1 3ff0000000000000 4000000000000000 0 1",
+            "elemf 1 0 1 3ff0000000000000 4000000000000000 1 1",
+            "elemf 1 0 1 0 8000000000000000 1 1",
+        ],
+    );
+    group(
+        out,
+        "no terms, no block, one block that is all terms, blocks at both ends",
+        &[
+            "elemf 1 - - - - 0 0",
+            "elemi 64 - - - - 0 ffffffffffffffff",
+            "elemi 2 1,2 0,0 4,5 6,7 0 0",
+            "elemi 2 0,3 0,0 4,5 6,7 1 0",
+            "elemi 2 1,2 0,0 4,5 6,7 3 0",
+            "elemi 2 2,2,2 0,1,2 1,1,1 0,0,0 0 2",
+            "elemi 2 0,0,1,2,3,3 0,3,1,2,0,3 1,2,3,4,5,6 0,0,0,0,0,0 1 1",
+            "elemi 2 0,0,1,2,3,3 0,3,1,2,0,3 1,2,3,4,5,6 0,0,0,0,0,0 1 2",
+            "elemi 2 0,0,1,2,3,3 0,3,1,2,0,3 1,2,3,4,5,6 0,0,0,0,0,0 1 0",
+            "elemi 2 0,0,1,2,3,3 0,3,1,2,0,3 1,2,3,4,5,6 0,0,0,0,0,0 3 1",
+        ],
+    );
+    group(
+        out,
+        "n = 0, 1, 63, 64, 65; a bit of n and above; X falls; the ends of i32",
+        &[
+            "elemi 0 - - - - 0 0",
+            "elemi 65 - - - - 0 0",
+            "elemf 0 - - - - 0 0",
+            "elemf 65 0 0 0 0 0 0",
+            "elemi 64 ffffffffffffffff ffffffffffffffff 1 2 0 ffffffffffffffff",
+            "elemi 64 ffffffffffffffff ffffffffffffffff 1 2 ffffffffffffffff 0",
+            "elemi 63 7fffffffffffffff 7fffffffffffffff 1 2 0 7fffffffffffffff",
+            "elemi 63 8000000000000000 0 1 2 0 0",
+            "elemi 63 0 8000000000000000 1 2 0 0",
+            "elemi 63 0 0 1 2 8000000000000000 0",
+            "elemi 63 0 0 1 2 0 8000000000000000",
+            "elemi 1 2 0 1 2 0 0",
+            "elemi 2 1,0 0,0 1,1 1,1 0 0",
+            "elemi 2 0,1,0 0,0,0 1,1,1 1,1,1 2 0",
+            "elemf 2 3,2 0,0 7ff8000000000000,0 0,0 0 0",
+            "elemi 1 0,0 0,1 2147483647,-2147483648 -2147483648,2147483647 1 1",
+            "elemi 1 1,1 1,1 -2147483648,-2147483648 -2147483648,-2147483648 1 0",
+            "elemi 1 1,1 1,1 -2147483648,-2147483648 -2147483648,-2147483648 0 1",
+        ],
+    );
+    out.push("# 65,536 terms and 65,537".to_string());
+    out.push(plain_terms("elemi", 65536).line());
+    out.push(plain_terms("elemf", 65537).line());
+}
+
+fn all_small(out: &mut Vec<String>) {
+    out.push("# every call on every set of one row of one qubit".to_string());
+    over_sets(1, 1, &mut |line| out.push(line));
+    over_sets(0, 1, &mut |line| out.push(line));
+}
+
+fn refusals(out: &mut Vec<String>) {
+    let mut random = Random::of(2, 0);
+    for (call, _) in CALLS.iter().filter(|call| call.1.starts_with('n')) {
+        out.push(format!("# {call}: each fault alone and with each other"));
+        let base = match *call {
+            "elemf" | "elemi" => valid::of_terms(&mut random, call, 3, 4),
+            _ => {
+                let rows = valid::rows(&mut random, 3, 2);
+                valid::over_rows(&mut random, call, 3, rows)
+            }
+        };
+        let mut long = 0;
+        singles_and_pairs(&base, &mut random, &mut |line| {
+            // A few of those with 257 rows are enough.
+            long += (line.len() > 500) as usize;
+            if line.len() <= 500 || long % 8 == 1 {
+                out.push(line);
+            }
+        });
+    }
+}
+
+fn not_of_the_form(out: &mut Vec<String>) {
+    out.push("# lines not of the form, and some that only look so; a blank line".to_string());
+    out.push(String::new());
+    for i in 0..400 {
+        out.push(malformed::line(&mut Random::of(3, i)));
+    }
+}
+
+fn random(out: &mut Vec<String>) {
+    out.push("# random calls".to_string());
+    for (at, (call, _)) in CALLS.iter().enumerate() {
+        let mut made = 0;
+        for i in 0.. {
+            let line = valid::of_call(&mut Random::of(4 + at as u64, i), call).line();
+            if line.len() <= 700 {
+                out.push(line);
+                made += 1;
+            }
+            if made == 90 {
+                break;
+            }
+        }
+    }
+}

@@ -1,0 +1,188 @@
+//! The lines of docs/CALLS.md, read and written by one table of calls.
+
+#[derive(Clone, Debug, PartialEq)]
+pub enum Field {
+    Number(u64),
+    Word(u64),
+    Words(Vec<u64>),
+    Bytes(Vec<u8>),
+    Shorts(Vec<u16>),
+    Ints(Vec<i32>),
+    Letter(char),
+    Lengths([u64; 3]),
+}
+
+/// Each call with the kinds of its fields: n number, w word, W words, B bytes, S list of u16, I list of i32, L letter,
+/// T three lengths.
+pub const CALLS: [(&str, &str); 17] = [
+    ("phase1", "wwww"),
+    ("act1", "www"),
+    ("get", "nWWBnn"),
+    ("set", "nWWBnnL"),
+    ("count", "nWWBn"),
+    ("act", "nWWBnW"),
+    ("phase", "nWWBnn"),
+    ("comm", "nWWBnn"),
+    ("matrix", "nWWBn"),
+    ("central", "nWWBn"),
+    ("pair", "nWWBWWBT"),
+    ("imul", "nWWBnn"),
+    ("reduce", "nWWBSSSn"),
+    ("reduceall", "nWWBn"),
+    ("check", "nWWBSSSSWWB"),
+    ("elemf", "nWWWWww"),
+    ("elemi", "nWWIIww"),
+];
+
+#[derive(Clone, Debug, PartialEq)]
+pub struct Case {
+    pub call: &'static str,
+    pub fields: Vec<Field>,
+}
+
+impl Case {
+    pub fn new(call: &str, fields: Vec<Field>) -> Self {
+        let call = CALLS.iter().find(|c| c.0 == call).expect("a call of the table").0;
+        Self { call, fields }
+    }
+
+    pub fn number(&self, i: usize) -> u64 {
+        match &self.fields[i] {
+            Field::Number(v) | Field::Word(v) => *v,
+            _ => unreachable!("field {i} of {}", self.call),
+        }
+    }
+
+    pub fn words(&self, i: usize) -> &[u64] {
+        match &self.fields[i] {
+            Field::Words(v) => v,
+            _ => unreachable!("field {i} of {}", self.call),
+        }
+    }
+
+    pub fn bytes(&self, i: usize) -> &[u8] {
+        match &self.fields[i] {
+            Field::Bytes(v) => v,
+            _ => unreachable!("field {i} of {}", self.call),
+        }
+    }
+
+    pub fn shorts(&self, i: usize) -> &[u16] {
+        match &self.fields[i] {
+            Field::Shorts(v) => v,
+            _ => unreachable!("field {i} of {}", self.call),
+        }
+    }
+
+    pub fn ints(&self, i: usize) -> &[i32] {
+        match &self.fields[i] {
+            Field::Ints(v) => v,
+            _ => unreachable!("field {i} of {}", self.call),
+        }
+    }
+
+    pub fn line(&self) -> String {
+        let mut out = self.call.to_string();
+        for field in &self.fields {
+            out.push(' ');
+            out.push_str(&written(field));
+        }
+        out
+    }
+}
+
+/// Whether a line is a case at all: blank lines and comments get no answer.
+pub fn is_case(line: &str) -> bool {
+    !line.is_empty() && !line.starts_with('#')
+}
+
+/// The case of a line, or nothing where it is not of the form.
+pub fn parsed(line: &str) -> Option<Case> {
+    let mut parts = line.split(' ');
+    let name = parts.next()?;
+    let (call, kinds) = CALLS.iter().find(|c| c.0 == name)?;
+    let mut fields = vec![];
+    for kind in kinds.chars() {
+        fields.push(field(kind, parts.next()?)?);
+    }
+    if parts.next().is_some() {
+        return None;
+    }
+    Some(Case { call, fields })
+}
+
+fn field(kind: char, text: &str) -> Option<Field> {
+    Some(match kind {
+        'n' => Field::Number(decimal(text, u64::MAX)?),
+        'w' => Field::Word(hex(text)?),
+        'W' => Field::Words(list(text, hex)?),
+        'B' => Field::Bytes(list(text, |s| decimal(s, 255).map(|v| v as u8))?),
+        'S' => Field::Shorts(list(text, |s| decimal(s, 65535).map(|v| v as u16))?),
+        'I' => Field::Ints(list(text, int)?),
+        'L' => Field::Letter(letter(text)?),
+        _ => Field::Lengths(list(text, |s| decimal(s, u64::MAX))?.try_into().ok()?),
+    })
+}
+
+fn list<T>(text: &str, one: impl Fn(&str) -> Option<T>) -> Option<Vec<T>> {
+    if text == "-" {
+        return Some(vec![]);
+    }
+    text.split(',').map(one).collect()
+}
+
+/// A decimal number of 1 to 20 digits and at most `top`.
+fn decimal(text: &str, top: u64) -> Option<u64> {
+    if text.is_empty() || text.len() > 20 || !text.bytes().all(|b| b.is_ascii_digit()) {
+        return None;
+    }
+    text.parse().ok().filter(|v| *v <= top)
+}
+
+/// A word of 1 to 16 digits in lower case.
+fn hex(text: &str) -> Option<u64> {
+    let fits = !text.is_empty() && text.len() <= 16;
+    let digits = text.bytes().all(|b| matches!(b, b'0'..=b'9' | b'a'..=b'f'));
+    if fits && digits {
+        u64::from_str_radix(text, 16).ok()
+    } else {
+        None
+    }
+}
+
+fn int(text: &str) -> Option<i32> {
+    let size = decimal(text.strip_prefix('-').unwrap_or(text), 1 << 31)? as i64;
+    let value = if text.starts_with('-') { -size } else { size };
+    i32::try_from(value).ok()
+}
+
+fn letter(text: &str) -> Option<char> {
+    match text {
+        "I" | "X" | "Y" | "Z" => text.chars().next(),
+        _ => None,
+    }
+}
+
+fn written(field: &Field) -> String {
+    match field {
+        Field::Number(v) => v.to_string(),
+        Field::Word(v) => format!("{v:x}"),
+        Field::Words(v) => hexes(v),
+        Field::Bytes(v) => joined(v),
+        Field::Shorts(v) => joined(v),
+        Field::Ints(v) => joined(v),
+        Field::Letter(v) => v.to_string(),
+        Field::Lengths(v) => joined(v),
+    }
+}
+
+pub fn hexes(words: &[u64]) -> String {
+    joined(&words.iter().map(|word| format!("{word:x}")).collect::<Vec<_>>())
+}
+
+pub fn joined<T: ToString>(items: &[T]) -> String {
+    if items.is_empty() {
+        return "-".to_string();
+    }
+    items.iter().map(|item| item.to_string()).collect::<Vec<_>>().join(",")
+}

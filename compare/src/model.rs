@@ -1,0 +1,329 @@
+//! Document 01 in plain words: every line gets its answer, refusals included. Written from the document and its
+//! readings alone.
+
+use crate::line::{hexes, joined, parsed, Case, Field};
+use crate::reduction::{first_bad, is_reduced, reduce, replay, Lists};
+use crate::rows::*;
+
+pub fn answer(line: &str) -> String {
+    match parsed(line) {
+        None => "bad line".to_string(),
+        Some(case) => match refusal(&case) {
+            Some(number) => format!("refuse {number}"),
+            None => worked(&case),
+        },
+    }
+}
+
+// ---- refusals
+
+type Test<'a> = (u8, Box<dyn Fn() -> bool + 'a>);
+
+/// The tests stand in rising order, so a later one may count on what the earlier ones found.
+fn first_fitting(tests: Vec<Test>) -> Option<u8> {
+    tests.iter().find(|test| (test.1)()).map(|test| test.0)
+}
+
+/// The set in the fields from i on.
+pub fn set_at(case: &Case, i: usize) -> Set {
+    Set { x: case.words(i).to_vec(), z: case.words(i + 1).to_vec(), p: case.bytes(i + 2).to_vec() }
+}
+
+pub fn sets_of(case: &Case) -> Vec<Set> {
+    match case.call {
+        "pair" => vec![set_at(case, 1), set_at(case, 4)],
+        "check" => vec![set_at(case, 1), set_at(case, 8)],
+        _ => vec![set_at(case, 1)],
+    }
+}
+
+fn refusal(case: &Case) -> Option<u8> {
+    match case.call {
+        "phase1" | "act1" => None,
+        "elemf" | "elemi" => refusal_of_terms(case),
+        _ => refusal_of_sets(case),
+    }
+}
+
+fn refusal_of_sets(case: &Case) -> Option<u8> {
+    let n = case.number(0);
+    let sets = sets_of(case);
+    let size = n as usize;
+    first_fitting(vec![
+        (1, Box::new(move || n > 1024)),
+        (2, Box::new(|| sets.iter().any(|set| set.p.len() > 256) || third_is_too_large(case))),
+        (3, Box::new(|| !lengths_fit(case, size, &sets))),
+        (4, Box::new(|| sets.iter().any(|set| spare_bit(size, set)) || spare_bit_in_state(case))),
+        (5, Box::new(|| sets.iter().any(|set| set.p.iter().any(|p| *p > 3)))),
+        (6, Box::new(|| number_too_large(case, size, sets[0].p.len()))),
+        (7, Box::new(|| listed_row_repeated(case))),
+        (9, Box::new(|| case.call == "check" && case.shorts(7).len() % 2 == 1)),
+    ])
+}
+
+fn third_is_too_large(case: &Case) -> bool {
+    matches!(case.fields.last(), Some(Field::Lengths([_, _, p])) if *p > 256)
+}
+
+fn lengths_fit(case: &Case, n: usize, sets: &[Set]) -> bool {
+    let w = words_for(n);
+    let m = sets[0].p.len();
+    let fits = |set: &Set| set.p.len() == m && set.x.len() == m * w && set.z.len() == m * w;
+    sets.iter().all(fits) && output_fits(case, m, w)
+}
+
+fn output_fits(case: &Case, m: usize, w: usize) -> bool {
+    match case.call {
+        "act" => case.words(5).len() == w,
+        "matrix" => case.number(4) == (m * words_for(m)) as u64,
+        "pair" => case.fields[7] == Field::Lengths([(m * w) as u64, (m * w) as u64, m as u64]),
+        _ => true,
+    }
+}
+
+/// A bit set at n or above in the last word of a row.
+fn spare_bit(n: usize, set: &Set) -> bool {
+    let w = words_for(n);
+    w > 0 && set.x.chunks(w).chain(set.z.chunks(w)).any(|row| spare(n, row))
+}
+
+fn spare(n: usize, row: &[u64]) -> bool {
+    (n..64 * row.len()).any(|q| bit(row, q))
+}
+
+fn spare_bit_in_state(case: &Case) -> bool {
+    case.call == "act" && spare(case.number(0) as usize, case.words(5))
+}
+
+fn number_too_large(case: &Case, n: usize, m: usize) -> bool {
+    let row = |i: usize| case.number(i) >= m as u64;
+    let rows = |i: usize| case.shorts(i).iter().any(|row| *row as usize >= m);
+    let columns = |i: usize| case.shorts(i).iter().any(|column| *column as usize >= 2 * n);
+    match case.call {
+        "get" | "set" => row(4) || case.number(5) >= n as u64,
+        "count" | "central" | "act" => row(4),
+        "phase" | "comm" | "imul" => row(4) || row(5),
+        "reduce" | "check" => columns(4) || rows(5) || rows(6),
+        _ => false,
+    }
+}
+
+fn listed_row_repeated(case: &Case) -> bool {
+    if !matches!(case.call, "reduce" | "check") {
+        return false;
+    }
+    let listed = case.shorts(5);
+    (0..listed.len()).any(|i| listed[..i].contains(&listed[i]))
+}
+
+fn refusal_of_terms(case: &Case) -> Option<u8> {
+    let n = case.number(0);
+    let (x, z) = (case.words(1), case.words(2));
+    let above = move |word: u64| n < 64 && word >> n != 0;
+    first_fitting(vec![
+        (1, Box::new(move || n < 1 || n > 64)),
+        (2, Box::new(|| x.len() > 65536)),
+        (3, Box::new(|| z.len() != x.len() || parts(case) != [x.len(); 2])),
+        (4, Box::new(move || [x, z, &[case.number(5), case.number(6)]].concat().into_iter().any(above))),
+        (10, Box::new(|| x.windows(2).any(|pair| pair[0] > pair[1]))),
+        (11, Box::new(|| case.call == "elemf" && [3, 4].iter().any(|i| !all_finite(case.words(*i))))),
+    ])
+}
+
+fn parts(case: &Case) -> [usize; 2] {
+    [3, 4].map(|i| if case.call == "elemf" { case.words(i).len() } else { case.ints(i).len() })
+}
+
+fn all_finite(bits: &[u64]) -> bool {
+    bits.iter().all(|bits| f64::from_bits(*bits).is_finite())
+}
+
+// ---- answers of calls that are not refused
+
+fn worked(case: &Case) -> String {
+    match case.call {
+        "phase1" | "act1" => on_words(case),
+        "elemf" => elemf(case),
+        "elemi" => elemi(case),
+        _ => over_set(case),
+    }
+}
+
+fn on_words(case: &Case) -> String {
+    let v: Vec<u64> = (0..case.fields.len()).map(|i| case.number(i)).collect();
+    if case.call == "phase1" {
+        return format!("ok {}", phase(&word(v[0], v[1]), &word(v[2], v[3])));
+    }
+    format!("ok {} {:x}", action(&word(v[0], v[1]), &[v[2]]), v[2] ^ v[0])
+}
+
+fn text(set: &Set) -> String {
+    format!("{} {} {}", hexes(&set.x), hexes(&set.z), joined(&set.p))
+}
+
+fn rows_text(n: usize, rows: &[Row]) -> String {
+    text(&packed(n, rows))
+}
+
+fn over_set(case: &Case) -> String {
+    let n = case.number(0) as usize;
+    let mut rows = unpacked(n, &set_at(case, 1));
+    match case.call {
+        "get" => format!("ok {:?}", rows[case.number(4) as usize].paulis[case.number(5) as usize]),
+        "set" => set_qubit(case, n, rows),
+        "count" => count(&rows[case.number(4) as usize]),
+        "act" => act(case, &rows),
+        "phase" => {
+            let (a, b) = two(case, &rows);
+            format!("ok {}", phase(&a.paulis, &b.paulis))
+        }
+        "comm" => {
+            let (a, b) = two(case, &rows);
+            format!("ok {}", commute(&a.paulis, &b.paulis) as u8)
+        }
+        "matrix" => format!("ok {}", hexes(&matrix(&rows))),
+        "central" => {
+            let row = &rows[case.number(4) as usize].paulis;
+            format!("ok {}", rows.iter().all(|other| commute(row, &other.paulis)) as u8)
+        }
+        "pair" => pair(case, n, &rows),
+        "imul" => {
+            multiply(&mut rows, case.number(4) as usize, case.number(5) as usize);
+            format!("ok {}", rows_text(n, &rows))
+        }
+        "check" => check(case, n, rows),
+        _ => reduction(case, n, rows),
+    }
+}
+
+fn two<'a>(case: &Case, rows: &'a [Row]) -> (&'a Row, &'a Row) {
+    (&rows[case.number(4) as usize], &rows[case.number(5) as usize])
+}
+
+fn set_qubit(case: &Case, n: usize, mut rows: Vec<Row>) -> String {
+    let to = match case.fields[6] {
+        Field::Letter('X') => Pauli::X,
+        Field::Letter('Y') => Pauli::Y,
+        Field::Letter('Z') => Pauli::Z,
+        _ => Pauli::I,
+    };
+    rows[case.number(4) as usize].paulis[case.number(5) as usize] = to;
+    format!("ok {}", rows_text(n, &rows))
+}
+
+fn count(row: &Row) -> String {
+    let of = |pauli: Pauli| row.paulis.iter().filter(|p| **p == pauli).count();
+    format!("ok {} {} {} {}", of(Pauli::I), of(Pauli::X), of(Pauli::Y), of(Pauli::Z))
+}
+
+fn act(case: &Case, rows: &[Row]) -> String {
+    let (row, state) = (&rows[case.number(4) as usize], case.words(5));
+    let mut after = state.to_vec();
+    for (q, pauli) in row.paulis.iter().enumerate() {
+        after[q / 64] ^= (pauli.has_x() as u64) << (q % 64);
+    }
+    format!("ok {} {}", action(&row.paulis, state), hexes(&after))
+}
+
+fn matrix(rows: &[Row]) -> Vec<u64> {
+    let w = words_for(rows.len());
+    let mut out = vec![0; rows.len() * w];
+    for (i, a) in rows.iter().enumerate() {
+        for (j, b) in rows.iter().enumerate() {
+            out[i * w + j / 64] |= (commute(&a.paulis, &b.paulis) as u64) << (j % 64);
+        }
+    }
+    out
+}
+
+fn pair(case: &Case, n: usize, left: &[Row]) -> String {
+    let right = unpacked(n, &set_at(case, 4));
+    let times =
+        |(l, r): (&Row, &Row)| Row { paulis: product(&l.paulis, &r.paulis), phase: phase(&l.paulis, &r.paulis) };
+    let out: Vec<Row> = left.iter().zip(&right).map(times).collect();
+    format!("ok {}", rows_text(n, &out))
+}
+
+/// `reduce` and `reduceall`. The latter goes through all columns, and all rows are listed.
+fn reduction(case: &Case, n: usize, mut rows: Vec<Row>) -> String {
+    let all_columns: Vec<u16> = (0..2 * n as u16).collect();
+    let all_rows: Vec<u16> = (0..rows.len() as u16).collect();
+    let lists = match case.call {
+        "reduce" => lists_of(case),
+        _ => Lists { order: &all_columns, listed: &all_rows, extra: &[] },
+    };
+    let Some(Field::Number(units)) = case.fields.last() else { unreachable!("the last field is the log's length") };
+    let capacity = units / 2;
+    let done = reduce(&mut rows, lists, capacity as usize);
+    let log = joined(&done.log.iter().map(|(a, b)| format!("{a}:{b}")).collect::<Vec<_>>());
+    let head = if done.full { format!("refuse 8 {capacity}") } else { format!("ok {} {}", done.log.len(), done.t) };
+    format!("{head} {log} {}", rows_text(n, &rows))
+}
+
+fn lists_of(case: &Case) -> Lists<'_> {
+    Lists { order: case.shorts(4), listed: case.shorts(5), extra: case.shorts(6) }
+}
+
+fn check(case: &Case, n: usize, mut rows: Vec<Row>) -> String {
+    let (lists, log) = (lists_of(case), case.shorts(7));
+    if let Some(k) = first_bad(rows.len(), lists, log) {
+        return format!("ok bad {k} {}", rows_text(n, &rows));
+    }
+    replay(&mut rows, log);
+    let claimed = unpacked(n, &set_at(case, 8));
+    let verdict = match rows.iter().zip(&claimed).position(|(row, claim)| row != claim) {
+        Some(r) => format!("differs {r}"),
+        None if is_reduced(&rows, lists) => "yes".to_string(),
+        None => "notreduced".to_string(),
+    };
+    format!("ok {verdict} {}", rows_text(n, &rows))
+}
+
+/// The places of the block's terms with the exponents of their actions.
+fn block(case: &Case) -> Vec<(usize, u8)> {
+    let (x, z) = (case.words(1), case.words(2));
+    let (bra, ket) = (case.number(5), case.number(6));
+    let places = (0..x.len()).filter(|i| x[*i] == bra ^ ket);
+    places.map(|i| (i, action(&word(x[i], z[i]), &[ket]))).collect()
+}
+
+fn turned<T: std::ops::Neg<Output = T>>(a: T, b: T, exponent: u8) -> (T, T) {
+    match exponent {
+        0 => (a, b),
+        1 => (-b, a),
+        2 => (-a, -b),
+        _ => (b, -a),
+    }
+}
+
+fn elemf(case: &Case) -> String {
+    let block = block(case);
+    let (mut re, mut im) = (0.0f64, 0.0f64);
+    for (i, exponent) in &block {
+        let part = |field: usize| f64::from_bits(case.words(field)[*i]);
+        let (a, b) = turned(part(3), part(4), *exponent);
+        re += a;
+        im += b;
+        if !re.is_finite() || !im.is_finite() {
+            return "refuse 12".to_string();
+        }
+    }
+    if block.is_empty() {
+        return "none".to_string();
+    }
+    format!("ok {:016x} {:016x}", re.to_bits(), im.to_bits())
+}
+
+fn elemi(case: &Case) -> String {
+    let block = block(case);
+    let (mut re, mut im) = (0i64, 0i64);
+    for (i, exponent) in &block {
+        let (a, b) = turned(case.ints(3)[*i] as i64, case.ints(4)[*i] as i64, *exponent);
+        re += a;
+        im += b;
+    }
+    if block.is_empty() {
+        return "none".to_string();
+    }
+    format!("ok {re} {im}")
+}

@@ -1,0 +1,139 @@
+//! Rows as document 01 describes them: a Pauli for each qubit and a phase exponent. Nothing is packed here, so that
+//! the model shares no trick with what it judges.
+
+#[derive(Clone, Copy, Debug, PartialEq)]
+pub enum Pauli {
+    I,
+    X,
+    Y,
+    Z,
+}
+
+use Pauli::*;
+
+#[derive(Clone, Debug, PartialEq)]
+pub struct Row {
+    pub paulis: Vec<Pauli>,
+    pub phase: u8,
+}
+
+/// A set as it lies in memory.
+#[derive(Clone, Debug, PartialEq)]
+pub struct Set {
+    pub x: Vec<u64>,
+    pub z: Vec<u64>,
+    pub p: Vec<u8>,
+}
+
+pub fn words_for(n: usize) -> usize {
+    n / 64 + (n % 64 > 0) as usize
+}
+
+pub fn bit(words: &[u64], q: usize) -> bool {
+    words[q / 64] >> (q % 64) & 1 == 1
+}
+
+fn pauli_of(x: bool, z: bool) -> Pauli {
+    match (x, z) {
+        (false, false) => I,
+        (true, false) => X,
+        (true, true) => Y,
+        (false, true) => Z,
+    }
+}
+
+impl Pauli {
+    pub fn has_x(self) -> bool {
+        self == X || self == Y
+    }
+
+    pub fn has_z(self) -> bool {
+        self == Y || self == Z
+    }
+}
+
+/// The rows of a set whose lengths fit.
+pub fn unpacked(n: usize, set: &Set) -> Vec<Row> {
+    let w = words_for(n);
+    let row = |r: usize| {
+        let (x, z) = (&set.x[r * w..(r + 1) * w], &set.z[r * w..(r + 1) * w]);
+        let paulis = (0..n).map(|q| pauli_of(bit(x, q), bit(z, q))).collect();
+        Row { paulis, phase: set.p[r] }
+    };
+    (0..set.p.len()).map(row).collect()
+}
+
+pub fn packed(n: usize, rows: &[Row]) -> Set {
+    let w = words_for(n);
+    let mut set = Set { x: vec![0; rows.len() * w], z: vec![0; rows.len() * w], p: vec![] };
+    for (r, row) in rows.iter().enumerate() {
+        for (q, pauli) in row.paulis.iter().enumerate() {
+            set.x[r * w + q / 64] |= (pauli.has_x() as u64) << (q % 64);
+            set.z[r * w + q / 64] |= (pauli.has_z() as u64) << (q % 64);
+        }
+        set.p.push(row.phase);
+    }
+    set
+}
+
+/// Product and exponent of two Paulis.
+fn times(a: Pauli, b: Pauli) -> (Pauli, u8) {
+    match (a, b) {
+        (I, p) | (p, I) => (p, 0),
+        (X, Y) => (Z, 1),
+        (Y, Z) => (X, 1),
+        (Z, X) => (Y, 1),
+        (Y, X) => (Z, 3),
+        (Z, Y) => (X, 3),
+        (X, Z) => (Y, 3),
+        _ => (I, 0),
+    }
+}
+
+pub fn phase(a: &[Pauli], b: &[Pauli]) -> u8 {
+    let sum: u64 = a.iter().zip(b).map(|(a, b)| times(*a, *b).1 as u64).sum();
+    (sum % 4) as u8
+}
+
+pub fn product(a: &[Pauli], b: &[Pauli]) -> Vec<Pauli> {
+    a.iter().zip(b).map(|(a, b)| times(*a, *b).0).collect()
+}
+
+/// Row a becomes row a times row b; with a = b the bits are cleared and the phase doubled, which the same rule gives.
+pub fn multiply(rows: &mut [Row], a: usize, b: usize) {
+    let exponent = rows[a].phase + rows[b].phase + phase(&rows[a].paulis, &rows[b].paulis);
+    rows[a].paulis = product(&rows[a].paulis, &rows[b].paulis);
+    rows[a].phase = exponent % 4;
+}
+
+pub fn commute(a: &[Pauli], b: &[Pauli]) -> bool {
+    let differing = a.iter().zip(b).filter(|(a, b)| **a != I && **b != I && a != b);
+    differing.count() % 2 == 0
+}
+
+/// The exponent of a word on a basis state.
+pub fn action(paulis: &[Pauli], state: &[u64]) -> u8 {
+    let one = |q: usize, pauli: Pauli| match (pauli, bit(state, q)) {
+        (Y, false) => 1u64,
+        (Y, true) => 3,
+        (Z, true) => 2,
+        _ => 0,
+    };
+    let sum: u64 = paulis.iter().enumerate().map(|(q, pauli)| one(q, *pauli)).sum();
+    (sum % 4) as u8
+}
+
+/// A word of 64 qubits from its two parts.
+pub fn word(x: u64, z: u64) -> Vec<Pauli> {
+    (0..64).map(|q| pauli_of(bit(&[x], q), bit(&[z], q))).collect()
+}
+
+/// Whether a row has a 1 at a column: q for X of qubit q, n + q for its Z.
+pub fn at_column(row: &Row, column: u16) -> bool {
+    let (c, n) = (column as usize, row.paulis.len());
+    if c < n {
+        row.paulis[c].has_x()
+    } else {
+        row.paulis[c - n].has_z()
+    }
+}

@@ -1,0 +1,244 @@
+//! One function a call. Exponents are printed mod 4, since products of the Rust's `ComplexSign` are not reduced.
+
+use std::collections::HashMap;
+
+use num_complex::Complex64;
+use oracle::container::bit_matrix::AsBitMatrix;
+use oracle::container::coeffs::complex_sign::ComplexSign;
+use oracle::container::traits::{Elements, MutRefElements, RefElements};
+use oracle::container::word_iters::WordIters;
+use oracle::qubit::mode::{PauliMatrix, Qubits, SymplecticPart};
+use oracle::qubit::pauli::cmpnt_major::cmpnt_list::CmpntList;
+use oracle::qubit::pauli::cmpnt_major::mat_elem::mat_elem_cmpnts_from_presorted;
+use oracle::qubit::pauli::cmpnt_major::products::{mul_op_op_phase_u64, mul_op_state_u64};
+use oracle::qubit::pauli::cmpnt_major::terms::{AsViewMut, Terms};
+use oracle::qubit::state::cmpnt_list::CmpntList as StateList;
+use oracle::qubit::traits::{PauliWordMutRef, PauliWordRef};
+
+use crate::fields::*;
+
+type Set = Terms<ComplexSign>;
+
+/// The answer to a line, or nothing where there is none.
+pub fn answer(line: &str) -> Option<String> {
+    let mut fields = Fields(line.split(' '));
+    let call = fields.text()?;
+    let f = &mut fields;
+    match call {
+        "phase1" => phase1(f),
+        "act1" => act1(f),
+        "elemf" => elemf(f),
+        "elemi" => elemi(f),
+        _ => {
+            let n = f.number()?;
+            let set = f.set(n)?;
+            over_set(call, n, set, f)
+        }
+    }
+}
+
+fn over_set(call: &str, n: usize, set: Set, f: &mut Fields) -> Option<String> {
+    let rows = &set.word_iters;
+    match call {
+        "get" => get(rows, f),
+        "set" => set_qubit(set, f),
+        "count" => count(rows, f),
+        "act" => act(n, rows, f),
+        "phase" => phase(rows, f),
+        "comm" => comm(rows, f),
+        "matrix" => Some(matrix(rows)),
+        "central" => central(rows, f),
+        "pair" => pair(n, rows, f),
+        "imul" => imul(set, f),
+        "reduce" => reduce(n, set, f),
+        "reduceall" => reduce_all(n, set, f),
+        "check" => replay(set, f),
+        _ => None,
+    }
+}
+
+fn exponent(phase: ComplexSign) -> u8 {
+    phase.0 & 3
+}
+
+fn phase1(f: &mut Fields) -> Option<String> {
+    let (ax, az, bx, bz) = (f.word()?, f.word()?, f.word()?, f.word()?);
+    Some(format!("ok {}", exponent(mul_op_op_phase_u64(ax, az, bx, bz))))
+}
+
+fn act1(f: &mut Fields) -> Option<String> {
+    let (state, phase) = mul_op_state_u64(f.word()?, f.word()?, f.word()?);
+    Some(format!("ok {} {state:x}", exponent(phase)))
+}
+
+fn get(rows: &CmpntList, f: &mut Fields) -> Option<String> {
+    let (row, q) = (f.number()?, f.number()?);
+    Some(format!("ok {}", rows.get_elem_ref(row).get_pauli(q).ok()?))
+}
+
+fn set_qubit(mut set: Set, f: &mut Fields) -> Option<String> {
+    let (row, q, to) = (f.number()?, f.number()?, pauli(f.text()?)?);
+    set.word_iters.get_elem_mut_ref(row).set_pauli(q, to).ok()?;
+    Some(format!("ok {}", set_text(&set)))
+}
+
+fn count(rows: &CmpntList, f: &mut Fields) -> Option<String> {
+    use PauliMatrix::*;
+    let row = rows.get_elem_ref(f.number()?);
+    let [i, x, y, z] = [I, X, Y, Z].map(|pauli| row.count(pauli));
+    Some(format!("ok {i} {x} {y} {z}"))
+}
+
+/// A list of the one basis state with these words.
+fn state(n: usize, words: &[u64]) -> StateList {
+    let mut out = StateList::new(Qubits::from_count(n));
+    out.push_u64it(words.iter().copied());
+    out
+}
+
+fn act(n: usize, rows: &CmpntList, f: &mut Fields) -> Option<String> {
+    let row = rows.get_elem_ref(f.number()?);
+    let mut ket = state(n, &f.words()?);
+    let phase = ket.get_elem_mut_ref(0).imul_by_op(row);
+    Some(format!("ok {} {}", exponent(phase), hex(ket.elem_u64it(0))))
+}
+
+fn phase(rows: &CmpntList, f: &mut Fields) -> Option<String> {
+    let (a, b) = rows.get_pair_refs(f.number()?, f.number()?);
+    Some(format!("ok {}", exponent(a.phase_of_mul(b))))
+}
+
+fn comm(rows: &CmpntList, f: &mut Fields) -> Option<String> {
+    let (a, b) = rows.get_pair_refs(f.number()?, f.number()?);
+    Some(format!("ok {}", a.commutes_with(b) as u8))
+}
+
+fn matrix(rows: &CmpntList) -> String {
+    let out = rows.compatibility_matrix();
+    format!("ok {}", hex((0..out.len()).flat_map(|i| out[i].to_vec())))
+}
+
+fn central(rows: &CmpntList, f: &mut Fields) -> Option<String> {
+    Some(format!("ok {}", rows.belongs_to_centralizer(f.number()?) as u8))
+}
+
+fn pair(n: usize, left: &CmpntList, f: &mut Fields) -> Option<String> {
+    let right = f.set(n)?.word_iters;
+    let (out, phases) = left.cmpnts_mul_pairwise(&right).ok()?;
+    Some(format!("ok {} {}", rows_text(&out), phases_text(&phases)))
+}
+
+fn imul(mut set: Set, f: &mut Fields) -> Option<String> {
+    set.imul(f.number()?, f.number()?);
+    Some(format!("ok {}", set_text(&set)))
+}
+
+fn reduce(n: usize, set: Set, f: &mut Fields) -> Option<String> {
+    let order = f.numbers::<usize>()?.into_iter().map(|c| column(n, c)).collect::<Vec<_>>();
+    let (listed, extra, units) = (f.numbers::<usize>()?, f.numbers::<usize>()?, f.number()?);
+    let mut done = set.clone();
+    let log = done.canonicalize(&order, &listed, &extra).ok()?;
+    Some(reduction(set, done, &order, &listed, &log, units / 2))
+}
+
+fn reduce_all(n: usize, set: Set, f: &mut Fields) -> Option<String> {
+    let units = f.number()?;
+    let order = (0..2 * n).map(|c| column(n, c)).collect::<Vec<_>>();
+    let listed = (0..set.len()).collect::<Vec<_>>();
+    let mut done = set.clone();
+    let log = done.canonicalize_all();
+    Some(reduction(set, done, &order, &listed, &log, units / 2))
+}
+
+/// The Rust has no capacity: a log too long for it is cut, and the rows that go with the cut log are the Rust's own
+/// products replayed from the start.
+fn reduction(
+    start: Set,
+    done: Set,
+    order: &[(usize, SymplecticPart)],
+    listed: &[usize],
+    log: &[(usize, usize)],
+    capacity: usize,
+) -> String {
+    if log.len() <= capacity {
+        let t = pivots(&done.word_iters, order, listed);
+        return format!("ok {} {t} {} {}", log.len(), log_text(log), set_text(&done));
+    }
+    let kept = &log[..capacity];
+    format!("refuse 8 {capacity} {} {}", log_text(kept), set_text(&replayed(start, kept)))
+}
+
+/// The Rust does not return its count of pivots. After it, exactly the pivots among the listed rows have a bit of the
+/// order set.
+fn pivots(rows: &CmpntList, order: &[(usize, SymplecticPart)], listed: &[usize]) -> usize {
+    let has = |row: usize| {
+        order.iter().any(|(q, part)| match part {
+            SymplecticPart::X => rows.x_part().get_bit_unchecked(row, *q),
+            SymplecticPart::Z => rows.z_part().get_bit_unchecked(row, *q),
+        })
+    };
+    listed.iter().filter(|row| has(**row)).count()
+}
+
+fn replayed(mut set: Set, log: &[(usize, usize)]) -> Set {
+    log.iter().for_each(|(target, source)| set.imul(*target, *source));
+    set
+}
+
+/// The Rust has no checker. The rows that a log leads to are its own products.
+fn replay(set: Set, f: &mut Fields) -> Option<String> {
+    let (_order, _listed, _extra) = (f.text()?, f.text()?, f.text()?);
+    let units = f.numbers::<usize>()?;
+    let log = units.chunks(2).map(|pair| (pair[0], pair[1])).collect::<Vec<_>>();
+    Some(format!("replay {}", set_text(&replayed(set, &log))))
+}
+
+/// The terms of a matrix element, with where each block of equal X words starts: in the Rust a map that the caller
+/// makes once. Its own maker sorts the terms first, which would change the order of the sum.
+struct Operator {
+    terms: Terms<Complex64>,
+    blocks: HashMap<u64, usize>,
+}
+
+fn operator(n: usize, x: &[u64], z: &[u64], coeffs: Vec<Complex64>) -> Operator {
+    let mut blocks = HashMap::new();
+    x.iter().enumerate().for_each(|(i, word)| {
+        blocks.entry(*word).or_insert(i);
+    });
+    Operator { terms: Terms::from((rows(n, x.len(), x, z), coeffs)), blocks }
+}
+
+/// The Rust's element, or nothing where no term has that X: there it gives zero.
+fn element(n: usize, op: &Operator, bra: u64, ket: u64) -> Option<Complex64> {
+    let (bras, kets) = (state(n, &[bra]), state(n, &[ket]));
+    let sum = mat_elem_cmpnts_from_presorted(&op.terms, &op.blocks, &bras.get_elem_ref(0), &kets.get_elem_ref(0));
+    if op.blocks.contains_key(&(bra ^ ket)) {
+        return Some(sum);
+    }
+    assert_eq!((sum.re.to_bits(), sum.im.to_bits()), (0, 0));
+    None
+}
+
+fn elemf(f: &mut Fields) -> Option<String> {
+    let (n, x, z) = (f.number()?, f.words()?, f.words()?);
+    let (re, im) = (f.words()?, f.words()?);
+    let float = |bits: &u64| f64::from_bits(*bits);
+    let coeffs = re.iter().zip(&im).map(|(re, im)| Complex64::new(float(re), float(im))).collect();
+    let sum = element(n, &operator(n, &x, &z, coeffs), f.word()?, f.word()?);
+    Some(match sum {
+        Some(sum) => format!("ok {:016x} {:016x}", sum.re.to_bits(), sum.im.to_bits()),
+        None => "none".to_string(),
+    })
+}
+
+/// The Rust has no whole-number coefficients. Its complex ones hold i32 parts and their sums exactly.
+fn elemi(f: &mut Fields) -> Option<String> {
+    let (n, x, z) = (f.number()?, f.words()?, f.words()?);
+    let (re, im) = (f.numbers::<i32>()?, f.numbers::<i32>()?);
+    let coeffs = re.iter().zip(&im).map(|(re, im)| Complex64::new(*re as f64, *im as f64)).collect();
+    let sum = element(n, &operator(n, &x, &z, coeffs), f.word()?, f.word()?);
+    Some(match sum {
+        Some(sum) => format!("ok {} {}", sum.re as i64, sum.im as i64),
+        None => "none".to_string(),
+    })
+}

@@ -1,0 +1,1 @@
+//! Stand-in for a single term; nothing given uses it.

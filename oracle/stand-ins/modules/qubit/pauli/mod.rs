@@ -1,0 +1,4 @@
+//! Stand-in: names the given files of this folder.
+pub mod cmpnt_major;
+pub mod mode_major;
+pub mod springs;

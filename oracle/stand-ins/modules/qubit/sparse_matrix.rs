@@ -1,0 +1,1 @@
+//! Stand-in: sparse matrices are left out.

@@ -1,0 +1,1 @@
+//! Stand-in: the Rust's own tests are not given.
