@@ -28,7 +28,7 @@ central n m σ r = everyBelow m (λ k. commute n (σ r) (σ k))
 -- how many qubits hold a Pauli
 unfoldable pub holding : Pauli → List Pauli → ℕ
 holding p [] = 0
-holding p (q ∷ qs) = cond (eqP p q) (suc (holding p qs)) (holding p qs)
+holding p (q ∷ qs) = let k = holding p qs in cond (eqP p q) (suc k) k
 
 -- count of X, Y, Z: qubits holding it; count of I: n less the others
 unfoldable pub countOf : ℕ → Pauli → Row → ℕ

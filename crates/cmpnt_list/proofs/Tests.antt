@@ -1,0 +1,108 @@
+-- From the tests of a call to its answer, and to what its worker may ask. Assumes nothing.
+use mathlib.Core.Path.{_≡_, refl, sym, ap, ap₂, _∙_, subst}
+use mathlib.Core.Bool.{Bool, true, false, cond, not, _||_}
+use mathlib.Core.List.{List, [], _∷_}
+use Prim.Native.Nat.{ℕ, zero, suc, _*_, _≤_, _<_}
+use native.Mathlib.Nat.{suc-ne-zero}
+use borrow.Author.Tests.{leb-false, lt-ltb, le-ltb, eqb-true, not-false}
+use lib.Dec.{eqb, leb}
+use lib.ListN.{length}
+use Rattle.encoding.specs.Limits.{maxRows, wordsOf}
+use Rattle.encoding.specs.Set.{Mem, count, Valid}
+use Rattle.encoding.specs.Refusals.{faultFrom, fault, joined, least, manyQubits, manyRows, badLengths, setTests, outTests, numberTests}
+use Rattle.encoding.proofs.Faults.{pass, joined-fault, least-none, lengths-fit}
+use Rattle.encoding.proofs.Memory.{within-limits}
+use Rattle.encoding.proofs.Scan.{none-of}
+use Rattle.cmpnt_list.specs.Calls.{readFault, matrixTests, differentRows}
+use Rattle.cmpnt_list.specs.Workers.{Ready, Asked, AskedMatrix, BothReady, ThirdReady}
+
+-- ---- an answer by its number: where it is not 0 the refusal, where it is 0 what stands there
+
+pub refusing : {A : Type 0} (refuse by : ℕ → A) → ((k : ℕ) → refuse (suc k) ≡ by (suc k)) → {f g : ℕ} → f ≡ g → (f ≡ 0 → ⊥) → refuse f ≡ by g
+refusing {A} refuse by step {f} {g} e ne = go f ne ∙ ap by e
+  where
+    go : (k : ℕ) → (k ≡ 0 → ⊥) → refuse k ≡ by k
+    go zero h = absurd (h refl)
+    go (suc k) h = step k
+
+pub passing : {A : Type 0} (by : ℕ → A) {f g : ℕ} → f ≡ g → f ≡ 0 → by 0 ≡ by g
+passing by e z = ap by (sym z ∙ e)
+
+-- ---- the smaller number of two parts is the number of both
+
+pub both-parts : {f a b : ℕ} (ts us : List Bool) → a ≡ fault ts → b ≡ fault us → f ≡ least a b → f ≡ fault (joined ts us)
+both-parts ts us ea eb ef = ef ∙ ap₂ least ea eb ∙ joined-fault ts us
+
+-- ---- a set that is read, and numbers
+
+pub ready-of : (n : ℕ) (M : Mem) {a : ℕ} → a ≡ fault (setTests n M) → (a ≡ 0 → Valid n (wordsOf n) M) → a ≡ 0 → Ready n M
+ready-of n M e v z = let l = within-limits n M (sym e ∙ z) in record { valid = v z; few-qubits = l .0; few-rows = l .1 }
+
+number-is : (large : Bool) → cond large 6 0 ≡ fault (numberTests large)
+unfolding faultFrom
+number-is large = refl
+
+not-large : (k : ℕ) (large : Bool) → cond large (suc k) 0 ≡ 0 → large ≡ false
+not-large k true e = absurd (suc-ne-zero k e)
+not-large k false e = refl
+
+module _ (n : ℕ) (M : Mem) (large : Bool) {f a b : ℕ} (ea : a ≡ fault (setTests n M)) (eb : b ≡ cond large 6 0) (ef : f ≡ least a b) where
+  pub read-fault : f ≡ readFault n M large
+  read-fault = both-parts (setTests n M) (numberTests large) ea (eb ∙ number-is large) ef
+
+  pub read-asked : (a ≡ 0 → Valid n (wordsOf n) M) → f ≡ 0 → Asked n M large
+  read-asked v z =
+      let p = least-none a b (sym ef ∙ z) in
+      record { ready = ready-of n M ea v (p .0); small = not-large 5 large (sym eb ∙ p .1) }
+
+-- two numbers below their limits
+pub both-small : (m r n q : ℕ) → (leb m r || leb n q) ≡ false → (r < m) × (q < n)
+both-small m r n q e = let p = none-of (leb m r) (leb n q) e in (leb-false m r (p .0), leb-false n q (p .1))
+
+-- ---- the matrix
+
+pub matrix-many : (m size : ℕ) → maxRows < m → 2 ≡ fault (matrixTests m size)
+unfolding faultFrom
+matrix-many m size h = simp (lt-ltb _ _ h)
+
+pub matrix-size : (m size : ℕ) {s r : ℕ} → m ≤ maxRows → s ≡ m * wordsOf m → r ≡ cond (not (eqb size s)) 3 0 → r ≡ fault (matrixTests m size)
+unfolding faultFrom
+matrix-size m size h e q = simp (le-ltb _ _ h) (q ∙ ap (λ (k : ℕ). cond (not (eqb size k)) 3 0) e)
+
+pub matrix-asked : (n : ℕ) (M : Mem) (size : ℕ) {f a b : ℕ} → a ≡ fault (setTests n M) → b ≡ fault (matrixTests (count M) size) → f ≡ least a b
+    → (a ≡ 0 → Valid n (wordsOf n) M) → f ≡ 0 → AskedMatrix n M size
+matrix-asked n M size {f} {a} {b} ea eb ef v z =
+    let p = least-none a b (sym ef ∙ z) in
+    let q = pass 0 false _ (sym eb ∙ p .1) in
+    let r = pass 1 (manyRows (count M)) _ (q .1) in
+    let s = pass 2 (not (eqb size (count M * wordsOf (count M)))) [] (r .1) in
+    record { ready = ready-of n M ea v (p .0); fits = eqb-true size (count M * wordsOf (count M)) (not-false _ (s .0)) }
+
+-- ---- two sets that are read, and a third that is written
+
+pub both-ready : (n : ℕ) (L R : Mem) {f a b : ℕ} → a ≡ fault (setTests n L) → b ≡ fault (setTests n R) → f ≡ least a b
+    → (a ≡ 0 → Valid n (wordsOf n) L) → (b ≡ 0 → Valid n (wordsOf n) R) → f ≡ 0 → BothReady n L R
+both-ready n L R {f} {a} {b} ea eb ef v u z =
+    let p = least-none a b (sym ef ∙ z) in
+    record { left = ready-of n L ea v (p .0); right = ready-of n R eb u (p .1) }
+
+pub different-is : (m k : ℕ) → cond (not (eqb k m)) 3 0 ≡ fault (differentRows m k)
+unfolding faultFrom
+different-is m k = refl
+
+pub third-ready : (n m k : ℕ) (O : Mem) {f a b : ℕ} → a ≡ cond (not (eqb k m)) 3 0 → b ≡ fault (outTests n m O) → f ≡ least a b → f ≡ 0 → ThirdReady n m k O
+third-ready n m k O {f} {a} {b} ea eb ef z =
+    let w = wordsOf n in
+    let p = least-none a b (sym ef ∙ z) in
+    let q = pass 0 (manyQubits n) _ (sym eb ∙ p .1) in
+    let r = pass 1 (manyRows (count O)) _ (q .1) in
+    let t = pass 2 (not (eqb (count O) m) || badLengths (count O) w (length (O .xs)) (length (O .zs))) [] (r .1) in
+    let s = none-of (not (eqb (count O) m)) (badLengths (count O) w (length (O .xs)) (length (O .zs))) (t .0) in
+    let l = lengths-fit (count O) w (length (O .xs)) (length (O .zs)) (s .1) in
+    let e : count O ≡ m = eqb-true (count O) m (not-false _ (s .0)) in
+    record {
+      same = eqb-true k m (not-false _ (not-large 2 (not (eqb k m)) (sym ea ∙ p .0)));
+      rows = e;
+      x-long = l .0 ∙ ap (λ (j : ℕ). j * w) e;
+      z-long = l .1 ∙ ap (λ (j : ℕ). j * w) e;
+    }

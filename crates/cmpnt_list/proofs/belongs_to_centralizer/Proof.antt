@@ -1,0 +1,45 @@
+use borrow.Author.Tests.{leb-false}
+use Rattle.pauli.specs.Rows.{central}
+use Rattle.cmpnt_list.specs.Calls.{belongsToCentralizer, truthOr}
+use Rattle.cmpnt_list.specs.declared.Truth.the-variants as truth
+use Rattle.encoding.specs.Set.{mem, rowsOf, count, lay}
+use Rattle.cmpnt_list.proofs.Tests.{refusing, passing}
+use native.Mathlib.Omega.{arith}
+use mathlib.Core.Path.{_≡_, refl, sym, ap, _∙_}
+use Prim.Native.Nat.{ℕ, _+_, _*_, _-_, _/_, _<_, _≤_}
+use lib.ListN.{length, getD, drop, take, length-set}
+use borrow.Author.Needs.{needs}
+use Rattle.cmpnt_list.proofs.belongs_to_centralizer.Statement.{statement}
+use Rattle.cmpnt_list.proofs.belongs_to_centralizer.Tie as tie
+use Rattle.cmpnt_list.proofs.belongs_to_centralizer.Reads as reads
+use Rattle.cmpnt_list.proofs.belongs_to_centralizer.Lts as lts
+use Rattle.cmpnt_list.proofs.central_row.Reads as central-row-reads
+use Rattle.cmpnt_list.proofs.row_fault.Reads as row-fault-reads
+
+row-fault-requires : tie.Need-row-fault-requires
+row-fault-requires c κs = search needs
+
+returns : tie.Need-returns
+unfolding belongsToCentralizer
+returns c =
+    let a = c .before .before .before .before .before .before .args in
+    let M = mem (a .x .now) (a .z .now) (a .phases .now) in
+    refusing truth.Refused (λ (k : ℕ). truthOr k (central (a .n) (count M) (rowsOf (a .n) M) (a .row .0))) (λ k. refl) (c .before .row-fault .ensures .0) (c .if1 .taken)
+
+central-row-requires : tie.Need-central-row-requires
+central-row-requires c κs =
+    let a = c .before .before .before .before .before .before .args in
+    let k = c .before .row-fault .ensures .1 (c .if1 .left) in
+    (k .ready, leb-false (length (a .phases .now)) (a .row .0) (k .small))
+
+returns-2 : tie.Need-returns-2
+unfolding belongsToCentralizer
+returns-2 c =
+    let a = c .before .before .before .before .before .before .before .args in
+    let M = mem (a .x .now) (a .z .now) (a .phases .now) in
+    ap (truth.Is) (c .central-row .ensures)
+    ∙ passing (λ (k : ℕ). truthOr k (central (a .n) (count M) (rowsOf (a .n) M) (a .row .0))) (c .before .before .row-fault .ensures .0) (c .before .if1 .left)
+
+pub belongs-to-centralizer-spec : {M : Type 1} → statement M
+belongs-to-centralizer-spec =
+    tie.close (tie.spec row-fault-requires returns central-row-requires returns-2)

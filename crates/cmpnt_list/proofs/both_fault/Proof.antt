@@ -1,0 +1,38 @@
+use Rattle.encoding.specs.Refusals.{setTests}
+use Rattle.encoding.specs.Set.{mem, rowsOf, count, lay}
+use Rattle.cmpnt_list.proofs.Tests.{both-parts, both-ready}
+use native.Mathlib.Omega.{arith}
+use mathlib.Core.Path.{_≡_, refl, sym, ap, _∙_}
+use Prim.Native.Nat.{ℕ, _+_, _*_, _-_, _/_, _<_, _≤_}
+use lib.ListN.{length, getD, drop, take, length-set}
+use borrow.Author.Needs.{needs}
+use Rattle.cmpnt_list.proofs.both_fault.Statement.{statement}
+use Rattle.cmpnt_list.proofs.both_fault.Tie as tie
+use Rattle.cmpnt_list.proofs.both_fault.Reads as reads
+use Rattle.cmpnt_list.proofs.both_fault.Lts as lts
+use Rattle.encoding.proofs.set_fault.Reads as set-fault-reads
+use Rattle.encoding.proofs.smaller.Reads as smaller-reads
+
+set-fault-requires : tie.Need-set-fault-requires
+set-fault-requires c κs = search needs
+
+set-fault-requires-2 : tie.Need-set-fault-requires-2
+set-fault-requires-2 c κs = search needs
+
+smaller-requires : tie.Need-smaller-requires
+smaller-requires c κs = search needs
+
+returns : tie.Need-returns
+returns c =
+    let r = c .before in
+    let l = r .before in
+    let a = l .before .before .before .before .before .before .before .args in
+    let L = mem (a .lx .now) (a .lz .now) (a .lp .now) in
+    let R = mem (a .rx .now) (a .rz .now) (a .rp .now) in (
+      both-parts (setTests (a .n) L) (setTests (a .n) R) (l .set-fault .ensures .0) (r .set-fault2 .ensures .0) (c .smaller .ensures),
+      both-ready (a .n) L R (l .set-fault .ensures .0) (r .set-fault2 .ensures .0) (c .smaller .ensures) (l .set-fault .ensures .1) (r .set-fault2 .ensures .1),
+    )
+
+pub both-fault-spec : {M : Type 1} → statement M
+both-fault-spec =
+    tie.close (tie.spec set-fault-requires set-fault-requires-2 smaller-requires returns)

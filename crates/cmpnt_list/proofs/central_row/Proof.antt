@@ -1,0 +1,87 @@
+use borrow.Author.Tests.{not-true, not-false}
+use Rattle.cmpnt_list.proofs.Every.{every-none, every-more, every-not}
+use mathlib.Core.Path.{subst}
+use mathlib.Core.Bool.{Bool, true, false}
+use Rattle.pauli.specs.Rows.{commute, everyBelow, central}
+use Rattle.encoding.specs.Set.{mem, rowsOf, count, lay}
+use borrow.Author.Needs.{needs}
+use native.Mathlib.Omega.{arith}
+use mathlib.Core.Path.{_≡_, refl, sym, ap, _∙_}
+use Prim.Native.Nat.{ℕ, _+_, _*_, _-_, _/_, _<_, _≤_}
+use lib.ListN.{length, getD, drop, take, length-set}
+use Rattle.cmpnt_list.proofs.central_row.Statement.{statement}
+use Rattle.cmpnt_list.proofs.central_row.Tie as tie
+use Rattle.cmpnt_list.proofs.central_row.Reads as reads
+use Rattle.cmpnt_list.proofs.central_row.Lts as lts
+use Rattle.cmpnt_list.proofs.commute_rows.Reads as commute-rows-reads
+
+abbrev Inv-loop : tie.InvT-loop
+Inv-loop n x z phases r m k₀ k = (m ≡ length phases) × (k ≤ m) × (everyBelow k (λ k. commute n (rowsOf n (mem x z phases) r) (rowsOf n (mem x z phases) k)) ≡ true)
+
+abbrev μ-loop : tie.MeasureT-loop
+μ-loop n x z phases r m k₀ k = m - k
+
+loop-holds : tie.Need-loop-holds Inv-loop μ-loop
+loop-holds c =
+    let s = c .before .before .before in
+    let a = s .args in
+    let M = mem (a .x .now) (a .z .now) (a .phases .now) in
+    let f : ℕ → Bool = λ k. commute (a .n) (rowsOf (a .n) M (a .r)) (rowsOf (a .n) M k) in
+    (refl, omega arith, every-none f)
+
+commute-rows-requires : tie.Need-commute-rows-requires Inv-loop μ-loop
+commute-rows-requires c κs =
+    let s = c .before .before .before .before .before in
+    let h : c .before .loop .k < length (s .args .phases .now) = omega arith in
+    (s .pre .0, (s .pre .1, h))
+
+returns : tie.Need-returns Inv-loop μ-loop
+unfolding central
+returns c =
+    let s = c .before .before .before .before .before .before .before in
+    let a = s .args in
+    let M = mem (a .x .now) (a .z .now) (a .phases .now) in
+    let f : ℕ → Bool = λ k. commute (a .n) (rowsOf (a .n) M (a .r)) (rowsOf (a .n) M k) in
+    let w = c .before .before .before in
+    let h : w .loop .k < length (a .phases .now) = omega arith in
+    sym (every-not f (length (a .phases .now)) (w .loop .k) h (sym (c .before .commute-rows .ensures) ∙ not-true _ (c .if1 .taken)))
+
+add-k : tie.Need-add-k Inv-loop μ-loop
+add-k c = search needs
+
+loop-less : tie.Need-loop-less Inv-loop μ-loop
+loop-less c = search needs
+
+loop-again : tie.Need-loop-again Inv-loop μ-loop
+loop-again c =
+    let s = c .before .before .before .before .before .before .before in
+    let a = s .args in
+    let M = mem (a .x .now) (a .z .now) (a .phases .now) in
+    let f : ℕ → Bool = λ k. commute (a .n) (rowsOf (a .n) M (a .r)) (rowsOf (a .n) M k) in
+    let w = c .before .before .before in
+    (w .loop .inv .0, omega arith, every-more f (w .loop .k) (w .loop .inv .2) (sym (c .before .commute-rows .ensures) ∙ not-false _ (c .if1 .left)))
+
+returns-2 : tie.Need-returns-2 Inv-loop μ-loop
+unfolding central
+returns-2 c =
+    let s = c .before .before .before .before .before in
+    let a = s .args in
+    let M = mem (a .x .now) (a .z .now) (a .phases .now) in
+    let f : ℕ → Bool = λ k. commute (a .n) (rowsOf (a .n) M (a .r)) (rowsOf (a .n) M k) in
+    let w = c .before in
+    let e : w .loop .k ≡ length (a .phases .now) = omega arith in
+    sym (subst (λ (k : ℕ). everyBelow k f ≡ true) e (w .loop .inv .2))
+
+pub central-row-spec : {M : Type 1} → statement M
+central-row-spec =
+    tie.close
+    (tie.spec
+    Inv-loop
+    μ-loop
+    loop-holds
+    commute-rows-requires
+    returns
+    add-k
+    loop-less
+    loop-again
+    returns-2)

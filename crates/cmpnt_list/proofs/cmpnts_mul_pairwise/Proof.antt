@@ -1,0 +1,94 @@
+use mathlib.Core.List.{List}
+use Rattle.encoding.specs.declared.Answer.the-variants.{Done, Refused}
+use Rattle.encoding.specs.Refusals.{doneOr, leftOr, joined, setTests, outTests}
+use Rattle.encoding.proofs.Faults.{least-none}
+use Rattle.cmpnt_list.specs.Calls.{pairs, differentRows}
+use Rattle.encoding.specs.Set.{mem, rowsOf, count, lay}
+use Rattle.cmpnt_list.proofs.Tests.{refusing, passing, both-parts}
+use native.Mathlib.Omega.{arith}
+use mathlib.Core.Path.{_≡_, refl, sym, ap, _∙_}
+use Prim.Native.Nat.{ℕ, _+_, _*_, _-_, _/_, _<_, _≤_}
+use lib.ListN.{length, getD, drop, take, length-set}
+use borrow.Author.Needs.{needs}
+use Rattle.cmpnt_list.proofs.cmpnts_mul_pairwise.Statement.{statement}
+use Rattle.cmpnt_list.proofs.cmpnts_mul_pairwise.Tie as tie
+use Rattle.cmpnt_list.proofs.cmpnts_mul_pairwise.Reads as reads
+use Rattle.cmpnt_list.proofs.cmpnts_mul_pairwise.Lts as lts
+use Rattle.cmpnt_list.proofs.both_fault.Reads as both-fault-reads
+use Rattle.cmpnt_list.proofs.mul_rows.Reads as mul-rows-reads
+use Rattle.cmpnt_list.proofs.third_fault.Reads as third-fault-reads
+use Rattle.encoding.proofs.smaller.Reads as smaller-reads
+
+both-fault-requires : tie.Need-both-fault-requires
+both-fault-requires c κs = search needs
+
+third-fault-requires : tie.Need-third-fault-requires
+third-fault-requires c κs = search needs
+
+smaller-requires : tie.Need-smaller-requires
+smaller-requires c κs = search needs
+
+same-length : tie.Need-same-length
+same-length c = search needs
+
+same-length-2 : tie.Need-same-length-2
+same-length-2 c = search needs
+
+same-length-3 : tie.Need-same-length-3
+same-length-3 c = search needs
+
+returns : tie.Need-returns
+returns c =
+    let s = c .before .before .before .before .before .before .before .before .before .before .before .before .before .before .before .before in
+    let a = s .args in
+    let L = mem (a .lx .now) (a .lz .now) (a .lp .now) in
+    let R = mem (a .rx .now) (a .rz .now) (a .rp .now) in
+    let O = mem (a .ox .now) (a .oz .now) (a .op .now) in
+    let new = lay (a .n) (count L) (pairs (a .n) L R) in
+    let e = both-parts (joined (setTests (a .n) L) (setTests (a .n) R)) (joined (differentRows (count L) (count R)) (outTests (a .n) (count L) O)) (c .before .before .before .before .before .before .both-fault .ensures .0) (c .before .before .third-fault .ensures .0) (c .before .smaller .ensures) in
+    record { answer = refusing Refused doneOr (λ k. refl) e (c .if1 .taken); rows = refusing (λ (k : ℕ). O) (λ (k : ℕ). leftOr k O new) (λ k. refl) e (c .if1 .taken) }
+
+mul-rows-requires : tie.Need-mul-rows-requires
+mul-rows-requires c κs =
+    let f = c .before .before .before .before .before .before .before .before .before .both-fault in
+    let t = c .before .before .before .before .before .third-fault in
+    let p = least-none (f .result) (t .result) (sym (c .before .before .before .before .smaller .ensures) ∙ c .before .before .before .if1 .left) in
+    (f .ensures .1 (p .0), t .ensures .1 (p .1))
+
+same-length-4 : tie.Need-same-length-4
+same-length-4 c = search needs
+
+same-length-5 : tie.Need-same-length-5
+same-length-5 c = search needs
+
+same-length-6 : tie.Need-same-length-6
+same-length-6 c = search needs
+
+returns-2 : tie.Need-returns-2
+returns-2 c =
+    let s = c .before .before .before .before .before .before .before .before .before .before .before .before .before .before .before .before .before .before .before .before .before .before .before .before .before .before in
+    let a = s .args in
+    let L = mem (a .lx .now) (a .lz .now) (a .lp .now) in
+    let R = mem (a .rx .now) (a .rz .now) (a .rp .now) in
+    let O = mem (a .ox .now) (a .oz .now) (a .op .now) in
+    let new = lay (a .n) (count L) (pairs (a .n) L R) in
+    let e = both-parts (joined (setTests (a .n) L) (setTests (a .n) R)) (joined (differentRows (count L) (count R)) (outTests (a .n) (count L) O)) (c .before .before .before .before .before .before .before .before .before .before .before .before .before .before .before .before .both-fault .ensures .0) (c .before .before .before .before .before .before .before .before .before .before .before .before .third-fault .ensures .0) (c .before .before .before .before .before .before .before .before .before .before .before .smaller .ensures) in
+    let z = c .before .before .before .before .before .before .before .before .before .before .if1 .left in
+    record { answer = passing doneOr e z; rows = c .before .before .before .before .before .before .mul-rows .ensures ∙ passing (λ (k : ℕ). leftOr k O new) e z }
+
+pub cmpnts-mul-pairwise-spec : {M : Type 1} → statement M
+cmpnts-mul-pairwise-spec =
+    tie.close
+    (tie.spec
+    both-fault-requires
+    third-fault-requires
+    smaller-requires
+    same-length
+    same-length-2
+    same-length-3
+    returns
+    mul-rows-requires
+    same-length-4
+    same-length-5
+    same-length-6
+    returns-2)

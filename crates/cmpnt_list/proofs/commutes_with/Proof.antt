@@ -1,0 +1,45 @@
+use Rattle.pauli.specs.Rows.{commute}
+use Rattle.cmpnt_list.specs.Calls.{commutesWith, truthOr}
+use Rattle.cmpnt_list.specs.declared.Truth.the-variants as truth
+use Rattle.encoding.specs.Set.{mem, rowsOf, count, lay}
+use Rattle.cmpnt_list.proofs.Tests.{refusing, passing, both-small}
+use native.Mathlib.Omega.{arith}
+use mathlib.Core.Path.{_≡_, refl, sym, ap, _∙_}
+use Prim.Native.Nat.{ℕ, _+_, _*_, _-_, _/_, _<_, _≤_}
+use lib.ListN.{length, getD, drop, take, length-set}
+use borrow.Author.Needs.{needs}
+use Rattle.cmpnt_list.proofs.commutes_with.Statement.{statement}
+use Rattle.cmpnt_list.proofs.commutes_with.Tie as tie
+use Rattle.cmpnt_list.proofs.commutes_with.Reads as reads
+use Rattle.cmpnt_list.proofs.commutes_with.Lts as lts
+use Rattle.cmpnt_list.proofs.commute_rows.Reads as commute-rows-reads
+use Rattle.cmpnt_list.proofs.row_fault.Reads as row-fault-reads
+
+row-fault-requires : tie.Need-row-fault-requires
+row-fault-requires c κs = search needs
+
+returns : tie.Need-returns
+unfolding commutesWith
+returns c =
+    let a = c .before .before .before .before .before .before .before .args in
+    let M = mem (a .x .now) (a .z .now) (a .phases .now) in
+    refusing truth.Refused (λ (k : ℕ). truthOr k (commute (a .n) (rowsOf (a .n) M (a .a .0)) (rowsOf (a .n) M (a .b .0)))) (λ k. refl) (c .before .row-fault .ensures .0) (c .if1 .taken)
+
+commute-rows-requires : tie.Need-commute-rows-requires
+commute-rows-requires c κs =
+    let a = c .before .before .before .before .before .before .before .args in
+    let m = length (a .phases .now) in
+    let k = c .before .row-fault .ensures .1 (c .if1 .left) in
+    (k .ready, both-small m (a .a .0) m (a .b .0) (k .small))
+
+returns-2 : tie.Need-returns-2
+unfolding commutesWith
+returns-2 c =
+    let a = c .before .before .before .before .before .before .before .before .args in
+    let M = mem (a .x .now) (a .z .now) (a .phases .now) in
+    ap (truth.Is) (c .commute-rows .ensures)
+    ∙ passing (λ (k : ℕ). truthOr k (commute (a .n) (rowsOf (a .n) M (a .a .0)) (rowsOf (a .n) M (a .b .0)))) (c .before .before .row-fault .ensures .0) (c .before .if1 .left)
+
+pub commutes-with-spec : {M : Type 1} → statement M
+commutes-with-spec =
+    tie.close (tie.spec row-fault-requires returns commute-rows-requires returns-2)

@@ -1,0 +1,44 @@
+use borrow.Author.Tests.{leb-false}
+use Rattle.pauli.specs.Rows.{countOf}
+use Rattle.cmpnt_list.specs.Calls.{countIn, tallyOr}
+use Rattle.cmpnt_list.specs.declared.Tally.the-variants as tally
+use Rattle.encoding.specs.Set.{mem, rowsOf, count, lay}
+use Rattle.cmpnt_list.proofs.Tests.{refusing, passing, both-small}
+use native.Mathlib.Omega.{arith}
+use mathlib.Core.Path.{_≡_, refl, sym, ap, _∙_}
+use Prim.Native.Nat.{ℕ, _+_, _*_, _-_, _/_, _<_, _≤_}
+use lib.ListN.{length, getD, drop, take, length-set}
+use borrow.Author.Needs.{needs}
+use Rattle.cmpnt_list.proofs.count.Statement.{statement}
+use Rattle.cmpnt_list.proofs.count.Tie as tie
+use Rattle.cmpnt_list.proofs.count.Reads as reads
+use Rattle.cmpnt_list.proofs.count.Lts as lts
+use Rattle.cmpnt_list.proofs.count_in.Reads as count-in-reads
+use Rattle.cmpnt_list.proofs.row_fault.Reads as row-fault-reads
+
+row-fault-requires : tie.Need-row-fault-requires
+row-fault-requires c κs = search needs
+
+returns : tie.Need-returns
+unfolding countIn
+returns c =
+    let a = c .before .before .before .before .before .before .args in
+    let M = mem (a .x .now) (a .z .now) (a .phases .now) in
+    refusing tally.Refused (λ (k : ℕ). tallyOr k (countOf (a .n) (a .pauli) (rowsOf (a .n) M (a .row .0)))) (λ k. refl) (c .before .row-fault .ensures .0) (c .if1 .taken)
+
+count-in-requires : tie.Need-count-in-requires
+count-in-requires c κs =
+    let a = c .before .before .before .before .before .before .args in
+    let k = c .before .row-fault .ensures .1 (c .if1 .left) in
+    (k .ready, leb-false (length (a .phases .now)) (a .row .0) (k .small))
+
+returns-2 : tie.Need-returns-2
+unfolding countIn
+returns-2 c =
+    let a = c .before .before .before .before .before .before .before .args in
+    let M = mem (a .x .now) (a .z .now) (a .phases .now) in
+    ap (tally.Number) (c .count-in .ensures)
+    ∙ passing (λ (k : ℕ). tallyOr k (countOf (a .n) (a .pauli) (rowsOf (a .n) M (a .row .0)))) (c .before .before .row-fault .ensures .0) (c .before .if1 .left)
+
+pub count-spec : {M : Type 1} → statement M
+count-spec = tie.close (tie.spec row-fault-requires returns count-in-requires returns-2)

@@ -1,0 +1,75 @@
+use Rattle.cmpnt_list.proofs.Counting.{Tallied, tallied-none, tallied-more, tallied-all}
+use borrow.Author.Needs.{needs}
+use native.Mathlib.Omega.{arith}
+use mathlib.Core.Path.{_≡_, refl, sym, ap, _∙_}
+use Prim.Native.Nat.{ℕ, _+_, _*_, _-_, _/_, _<_, _≤_}
+use lib.ListN.{length, getD, drop, take, length-set}
+use Rattle.cmpnt_list.proofs.count_row.Statement.{statement}
+use Rattle.cmpnt_list.proofs.count_row.Tie as tie
+use Rattle.cmpnt_list.proofs.count_row.Reads as reads
+use Rattle.cmpnt_list.proofs.count_row.Lts as lts
+use Rattle.cmpnt_list.proofs.count_word.Reads as count-word-reads
+
+abbrev Inv-loop : tie.InvT-loop
+Inv-loop x z p k₀ i₀ k i = Tallied p x z k i
+
+abbrev μ-loop : tie.MeasureT-loop
+μ-loop x z p k₀ i₀ k i = length x - i
+
+loop-holds : tie.Need-loop-holds Inv-loop μ-loop
+loop-holds c =
+    let s = c .before .before in
+    tallied-none (s .args .p) (s .args .x .now) (s .args .z .now) (s .pre .1)
+
+mul-count-word : tie.Need-mul-count-word Inv-loop μ-loop
+mul-count-word c = search needs
+
+shared-slice-read-count-word : tie.Need-shared-slice-read-count-word Inv-loop μ-loop
+shared-slice-read-count-word c = search needs
+
+mul-count-word-2 : tie.Need-mul-count-word-2 Inv-loop μ-loop
+mul-count-word-2 c = search needs
+
+shared-slice-read-count-word-2 : tie.Need-shared-slice-read-count-word-2 Inv-loop μ-loop
+shared-slice-read-count-word-2 c = search needs
+
+count-word-requires : tie.Need-count-word-requires Inv-loop μ-loop
+count-word-requires c κs = search needs
+
+add-k : tie.Need-add-k Inv-loop μ-loop
+add-k c = search needs
+
+add-i : tie.Need-add-i Inv-loop μ-loop
+add-i c = search needs
+
+loop-less : tie.Need-loop-less Inv-loop μ-loop
+loop-less c = search needs
+
+loop-again : tie.Need-loop-again Inv-loop μ-loop
+loop-again c =
+    let i = c .before .before .before in
+    let s = i .before .before .before .before in
+    tallied-more (s .args .p) (s .args .x .now) (s .args .z .now) (s .pre .1) (c .count-word .result) (i .before .loop .inv) (i .loop-test .taken) (c .count-word .ensures)
+
+returns : tie.Need-returns Inv-loop μ-loop
+returns c =
+    let s = c .before .before .before .before in
+    tallied-all (s .args .p) (s .args .x .now) (s .args .z .now) (s .pre .1) (c .before .loop .inv) (c .loop-test .left)
+
+pub count-row-spec : {M : Type 1} → statement M
+count-row-spec =
+    tie.close
+    (tie.spec
+    Inv-loop
+    μ-loop
+    loop-holds
+    mul-count-word
+    shared-slice-read-count-word
+    mul-count-word-2
+    shared-slice-read-count-word-2
+    count-word-requires
+    add-k
+    add-i
+    loop-less
+    loop-again
+    returns)

@@ -1,0 +1,92 @@
+use Rattle.encoding.specs.Words.{word}
+use Rattle.pauli.specs.declared.PauliMatrix.the-variants.{I, X, Y, Z}
+use Rattle.pauli.specs.Pauli.{Pauli}
+use Rattle.cmpnt_list.proofs.Counting.{word-count}
+use Rattle.cmpnt_list.specs.Workers.{masked}
+use native.Mathlib.Omega.{arith}
+use mathlib.Core.Path.{_≡_, refl, sym, ap, _∙_}
+use Prim.Native.Nat.{ℕ, _+_, _*_, _-_, _/_, _<_, _≤_}
+use lib.ListN.{length, getD, drop, take, length-set}
+use borrow.Author.Needs.{needs}
+use Rattle.cmpnt_list.proofs.count_word.Statement.{statement}
+use Rattle.cmpnt_list.proofs.count_word.Tie as tie
+use Rattle.cmpnt_list.proofs.count_word.Reads as reads
+use Rattle.cmpnt_list.proofs.count_word.Lts as lts
+use Rattle.cmpnt_list.proofs.ones_in.Reads as ones-in-reads
+
+enum-told : tie.Need-enum-told
+enum-told c = search needs
+
+ones-in-requires : tie.Need-ones-in-requires
+ones-in-requires c κs = search needs
+
+enum-told-2 : tie.Need-enum-told-2
+enum-told-2 c = search needs
+
+ones-in-requires-2 : tie.Need-ones-in-requires-2
+ones-in-requires-2 c κs = search needs
+
+enum-told-3 : tie.Need-enum-told-3
+enum-told-3 c = search needs
+
+ones-in-requires-3 : tie.Need-ones-in-requires-3
+ones-in-requires-3 c κs = search needs
+
+enum-told-4 : tie.Need-enum-told-4
+enum-told-4 c = search needs
+
+ones-in-requires-4 : tie.Need-ones-in-requires-4
+ones-in-requires-4 c κs = search needs
+
+returns : tie.Need-returns
+returns c =
+    let s = c .before .before .before in
+    let x = s .args .x in
+    let z = s .args .z in
+    let r = c .ones-in in
+    let q : r .result ≡ masked I (word 64 x z) = omega (arith, word-count I tt (s .fits .x .fits) (s .fits .z .fits), r .ensures .0) in
+    (q ∙ ap (λ (p : Pauli). masked p (word 64 x z)) (sym (c .before .enum-told .given .1)), r .ensures .1)
+
+returns-2 : tie.Need-returns-2
+returns-2 c =
+    let s = c .before .before .before in
+    let x = s .args .x in
+    let z = s .args .z in
+    let r = c .ones-in2 in
+    let q : r .result ≡ masked X (word 64 x z) = omega (arith, word-count X tt (s .fits .x .fits) (s .fits .z .fits), r .ensures .0) in
+    (q ∙ ap (λ (p : Pauli). masked p (word 64 x z)) (sym (c .before .enum-told2 .given .1)), r .ensures .1)
+
+returns-3 : tie.Need-returns-3
+returns-3 c =
+    let s = c .before .before .before in
+    let x = s .args .x in
+    let z = s .args .z in
+    let r = c .ones-in3 in
+    let q : r .result ≡ masked Y (word 64 x z) = omega (arith, word-count Y tt (s .fits .x .fits) (s .fits .z .fits), r .ensures .0) in
+    (q ∙ ap (λ (p : Pauli). masked p (word 64 x z)) (sym (c .before .enum-told3 .given .1)), r .ensures .1)
+
+returns-4 : tie.Need-returns-4
+returns-4 c =
+    let s = c .before .before .before in
+    let x = s .args .x in
+    let z = s .args .z in
+    let r = c .ones-in4 in
+    let q : r .result ≡ masked Z (word 64 x z) = omega (arith, word-count Z tt (s .fits .x .fits) (s .fits .z .fits), r .ensures .0) in
+    (q ∙ ap (λ (p : Pauli). masked p (word 64 x z)) (sym (c .before .enum-told4 .given .1)), r .ensures .1)
+
+pub count-word-spec : {M : Type 1} → statement M
+count-word-spec =
+    tie.close
+    (tie.spec
+    enum-told
+    ones-in-requires
+    enum-told-2
+    ones-in-requires-2
+    enum-told-3
+    ones-in-requires-3
+    enum-told-4
+    ones-in-requires-4
+    returns
+    returns-2
+    returns-3
+    returns-4)

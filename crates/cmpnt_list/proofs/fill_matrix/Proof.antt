@@ -1,0 +1,79 @@
+use Rattle.encoding.proofs.WordLaws.{Fit}
+use Rattle.cmpnt_list.proofs.Filling.{fill-none, fill-all}
+use Rattle.cmpnt_list.specs.Workers.{Filled}
+use Rattle.cmpnt_list.specs.Calls.{commuting}
+use Rattle.encoding.specs.Set.{mem, rowsOf, count, lay}
+use borrow.Author.Needs.{needs}
+use native.Mathlib.Omega.{arith}
+use mathlib.Core.Path.{_≡_, refl, sym, ap, _∙_}
+use Prim.Native.Nat.{ℕ, _+_, _*_, _-_, _/_, _<_, _≤_}
+use lib.ListN.{length, getD, drop, take, length-set}
+use Rattle.cmpnt_list.proofs.fill_matrix.Statement.{statement}
+use Rattle.cmpnt_list.proofs.fill_matrix.Tie as tie
+use Rattle.cmpnt_list.proofs.fill_matrix.Reads as reads
+use Rattle.cmpnt_list.proofs.fill_matrix.Lts as lts
+use Rattle.cmpnt_list.proofs.clear.Reads as clear-reads
+use Rattle.cmpnt_list.proofs.mark_line.Reads as mark-line-reads
+
+abbrev Inv-loop : tie.InvT-loop
+Inv-loop n x z phases out₀ m i₀ out i = (m ≡ length phases) × (i ≤ m) × Filled (commuting n (mem x z phases)) (length phases) i 0 out × Fit out
+
+abbrev μ-loop : tie.MeasureT-loop
+μ-loop n x z phases out₀ m i₀ out i = m - i
+
+clear-requires : tie.Need-clear-requires Inv-loop μ-loop
+clear-requires c κs = search needs
+
+loop-holds : tie.Need-loop-holds Inv-loop μ-loop
+loop-holds c =
+    let s = c .before .before .before .before .before .before .before .before in
+    let a = s .args in
+    let M = mem (a .x .now) (a .z .now) (a .phases .now) in
+    let z = c .before .before .clear .ensures in
+    (refl, omega arith, fill-none (commuting (a .n) M) (z .long ∙ s .pre .1) (z .zero-at), c .slice-known2 .given)
+
+mark-line-requires : tie.Need-mark-line-requires Inv-loop μ-loop
+mark-line-requires c κs =
+    let i = c .before in
+    let w = i .before in
+    let s = w .before .before .before .before .before .before .before .before .before in
+    let h : w .loop .i < length (s .args .phases .now) = omega arith in
+    (s .pre .0, (h, w .loop .inv .2))
+
+add-i : tie.Need-add-i Inv-loop μ-loop
+add-i c = search needs
+
+loop-less : tie.Need-loop-less Inv-loop μ-loop
+loop-less c = search needs
+
+loop-again : tie.Need-loop-again Inv-loop μ-loop
+loop-again c =
+    let i = c .before .before .before .before in
+    (i .before .loop .inv .0, omega arith, c .before .before .mark-line .ensures, c .slice-known3 .given)
+
+same-length : tie.Need-same-length Inv-loop μ-loop
+same-length c = search needs
+
+returns : tie.Need-returns Inv-loop μ-loop
+returns c =
+    let w = c .before in
+    let s = w .before .before .before .before .before .before .before .before .before in
+    let a = s .args in
+    let M = mem (a .x .now) (a .z .now) (a .phases .now) in
+    let e : w .loop .i ≡ length (a .phases .now) = omega arith in
+    fill-all (commuting (a .n) M) (w .loop .inv .2) e (w .loop .inv .3)
+
+pub fill-matrix-spec : {M : Type 1} → statement M
+fill-matrix-spec =
+    tie.close
+    (tie.spec
+    Inv-loop
+    μ-loop
+    clear-requires
+    loop-holds
+    mark-line-requires
+    add-i
+    loop-less
+    loop-again
+    same-length
+    returns)

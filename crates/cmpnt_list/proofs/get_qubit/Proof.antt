@@ -1,0 +1,44 @@
+use Rattle.pauli.specs.Row.{Row}
+use Rattle.pauli.specs.declared.PauliMatrix.the-variants.{I}
+use Rattle.cmpnt_list.specs.declared.Got.the-variants as got
+use Rattle.encoding.specs.Set.{mem, rowsOf, count, lay}
+use Rattle.cmpnt_list.proofs.Tests.{refusing, passing, both-small}
+use Rattle.cmpnt_list.specs.Calls.{getQubit, gotOr}
+use native.Mathlib.Omega.{arith}
+use mathlib.Core.Path.{_≡_, refl, sym, ap, _∙_}
+use Prim.Native.Nat.{ℕ, _+_, _*_, _-_, _/_, _<_, _≤_}
+use lib.ListN.{length, getD, drop, take, length-set}
+use borrow.Author.Needs.{needs}
+use Rattle.cmpnt_list.proofs.get_qubit.Statement.{statement}
+use Rattle.cmpnt_list.proofs.get_qubit.Tie as tie
+use Rattle.cmpnt_list.proofs.get_qubit.Reads as reads
+use Rattle.cmpnt_list.proofs.get_qubit.Lts as lts
+use Rattle.cmpnt_list.proofs.read_qubit.Reads as read-qubit-reads
+use Rattle.cmpnt_list.proofs.row_fault.Reads as row-fault-reads
+
+row-fault-requires : tie.Need-row-fault-requires
+row-fault-requires c κs = search needs
+
+returns : tie.Need-returns
+unfolding getQubit
+returns c =
+    let a = c .before .before .before .before .before .before .before .args in
+    let M = mem (a .x .now) (a .z .now) (a .phases .now) in
+    refusing got.Refused (λ (k : ℕ). gotOr k (getD (rowsOf (a .n) M (a .row .0) .ps) (a .qubit .0) I)) (λ k. refl) (c .before .row-fault .ensures .0) (c .if1 .taken)
+
+read-qubit-requires : tie.Need-read-qubit-requires
+read-qubit-requires c κs =
+    let a = c .before .before .before .before .before .before .before .args in
+    let k = c .before .row-fault .ensures .1 (c .if1 .left) in
+    (k .ready, both-small (length (a .phases .now)) (a .row .0) (a .n) (a .qubit .0) (k .small))
+
+returns-2 : tie.Need-returns-2
+unfolding getQubit
+returns-2 c =
+    let a = c .before .before .before .before .before .before .before .before .args in
+    let M = mem (a .x .now) (a .z .now) (a .phases .now) in
+    ap got.Is (c .read-qubit .ensures)
+    ∙ passing (λ (k : ℕ). gotOr k (getD (rowsOf (a .n) M (a .row .0) .ps) (a .qubit .0) I)) (c .before .before .row-fault .ensures .0) (c .before .if1 .left)
+
+pub get-qubit-spec : {M : Type 1} → statement M
+get-qubit-spec = tie.close (tie.spec row-fault-requires returns read-qubit-requires returns-2)

@@ -1,0 +1,91 @@
+use mathlib.Core.List.{List}
+use borrow.Author.Tests.{leb-false}
+use Rattle.encoding.proofs.Faults.{least-none}
+use Rattle.pauli.specs.Rows.{actOn, actPhaseOn}
+use Rattle.encoding.specs.Refusals.{leftOr, joined, setTests, numberTests, stateTests, tooLarge}
+use Rattle.cmpnt_list.specs.Calls.{phaseOr, stateOf, layState}
+use Rattle.cmpnt_list.specs.declared.Phase.the-variants as phase
+use Rattle.encoding.specs.Set.{mem, rowsOf, count, lay}
+use Rattle.cmpnt_list.proofs.Tests.{refusing, passing, both-parts}
+use native.Mathlib.Omega.{arith}
+use mathlib.Core.Path.{_≡_, refl, sym, ap, _∙_}
+use Prim.Native.Nat.{ℕ, _+_, _*_, _-_, _/_, _<_, _≤_}
+use lib.ListN.{length, getD, drop, take, length-set}
+use borrow.Author.Needs.{needs}
+use Rattle.cmpnt_list.proofs.imul_state.Statement.{statement}
+use Rattle.cmpnt_list.proofs.imul_state.Tie as tie
+use Rattle.cmpnt_list.proofs.imul_state.Reads as reads
+use Rattle.cmpnt_list.proofs.imul_state.Lts as lts
+use Rattle.cmpnt_list.proofs.act_on.Reads as act-on-reads
+use Rattle.cmpnt_list.proofs.row_fault.Reads as row-fault-reads
+use Rattle.encoding.proofs.smaller.Reads as smaller-reads
+use Rattle.encoding.proofs.state_fault.Reads as state-fault-reads
+
+row-fault-requires : tie.Need-row-fault-requires
+row-fault-requires c κs = search needs
+
+state-fault-requires : tie.Need-state-fault-requires
+state-fault-requires c κs = search needs
+
+smaller-requires : tie.Need-smaller-requires
+smaller-requires c κs = search needs
+
+same-length : tie.Need-same-length
+same-length c = search needs
+
+returns : tie.Need-returns
+returns c =
+    let s = c .before .before .before .before .before .before .before .before .before .before in
+    let a = s .args in
+    let M = mem (a .x .now) (a .z .now) (a .phases .now) in
+    let e = both-parts (joined (setTests (a .n) M) (numberTests (tooLarge (count M) (a .row .0)))) (stateTests (a .n) (a .state .now)) (c .before .before .before .before .row-fault .ensures .0) (c .before .before .state-fault .ensures) (c .before .smaller .ensures) in
+    let st = a .state .now in
+    let r = rowsOf (a .n) M (a .row .0) in
+    let v = actPhaseOn (a .n) r (stateOf (a .n) st) in
+    let new = layState (a .n) (actOn (a .n) r (stateOf (a .n) st)) in
+    record {
+      answer = refusing phase.Refused (λ (k : ℕ). phaseOr k v) (λ k. refl) e (c .if1 .taken);
+      state = refusing (λ (k : ℕ). st) (λ (k : ℕ). leftOr k st new) (λ k. refl) e (c .if1 .taken);
+    }
+
+act-on-requires : tie.Need-act-on-requires
+act-on-requires c κs =
+    let a = c .before .before .before .before .before .before .before .before .before .before .before .args in
+    let f = c .before .before .before .before .before .row-fault in
+    let t = c .before .before .before .state-fault in
+    let p = least-none (f .result) (t .result) (sym (c .before .before .smaller .ensures) ∙ c .before .if1 .left) in
+    let k = f .ensures .1 (p .0) in
+    (k .ready, (leb-false (length (a .phases .now)) (a .row .0) (k .small), sym (t .ensures) ∙ p .1))
+
+same-length-2 : tie.Need-same-length-2
+same-length-2 c = search needs
+
+returns-2 : tie.Need-returns-2
+returns-2 c =
+    let s = c .before .before .before .before .before .before .before .before .before .before .before .before .before .before in
+    let a = s .args in
+    let M = mem (a .x .now) (a .z .now) (a .phases .now) in
+    let e = both-parts (joined (setTests (a .n) M) (numberTests (tooLarge (count M) (a .row .0)))) (stateTests (a .n) (a .state .now)) (c .before .before .before .before .before .before .before .before .row-fault .ensures .0) (c .before .before .before .before .before .before .state-fault .ensures) (c .before .before .before .before .before .smaller .ensures) in
+    let st = a .state .now in
+    let r = rowsOf (a .n) M (a .row .0) in
+    let v = actPhaseOn (a .n) r (stateOf (a .n) st) in
+    let new = layState (a .n) (actOn (a .n) r (stateOf (a .n) st)) in
+    let z = c .before .before .before .before .if1 .left in
+    let q = c .before .before .act-on .ensures in
+    record {
+      answer = ap (λ (k : ℕ). phase.Exponent (record { 0 = k })) (q .exponent) ∙ passing (λ (k : ℕ). phaseOr k v) e z;
+      state = q .state ∙ passing (λ (k : ℕ). leftOr k st new) e z;
+    }
+
+pub imul-state-spec : {M : Type 1} → statement M
+imul-state-spec =
+    tie.close
+    (tie.spec
+    row-fault-requires
+    state-fault-requires
+    smaller-requires
+    same-length
+    returns
+    act-on-requires
+    same-length-2
+    returns-2)

@@ -1,0 +1,68 @@
+use Prim.Native.Nat.{_%_}
+use lib.ListN.{set}
+use mathlib.Core.Bool.{true}
+use mathlib.Core.Path.{subst}
+use Rattle.cmpnt_list.specs.Workers.{Marked}
+use Rattle.encoding.proofs.OneBit.{code-on}
+use Rattle.cmpnt_list.proofs.Filling.{marked}
+use native.Mathlib.Omega.{arith}
+use mathlib.Core.Path.{_≡_, refl, sym, ap, _∙_}
+use Prim.Native.Nat.{ℕ, _+_, _*_, _-_, _/_, _<_, _≤_}
+use lib.ListN.{length, getD, drop, take, length-set}
+use borrow.Author.Needs.{needs}
+use Rattle.cmpnt_list.proofs.mark.Statement.{statement}
+use Rattle.cmpnt_list.proofs.mark.Tie as tie
+use Rattle.cmpnt_list.proofs.mark.Reads as reads
+use Rattle.cmpnt_list.proofs.mark.Lts as lts
+use Rattle.cmpnt_list.proofs.row_span.Reads as row-span-reads
+
+row-span-requires : tie.Need-row-span-requires
+row-span-requires c κs = search needs
+
+add-t : tie.Need-add-t
+add-t c = search needs
+
+mul-out : tie.Need-mul-out
+mul-out c = search needs
+
+slice-read-out : tie.Need-slice-read-out
+slice-read-out c = search needs
+
+shl-out : tie.Need-shl-out
+shl-out c = search needs
+
+mul-out-2 : tie.Need-mul-out-2
+mul-out-2 c = search needs
+
+slice-write-out : tie.Need-slice-write-out
+slice-write-out c = search needs
+
+same-length : tie.Need-same-length
+same-length c = search needs
+
+returns : tie.Need-returns
+returns c =
+    let s = c .before .before .before .before in
+    let a = s .args in
+    let o = a .out .now in
+    let f = c .before .before .row-span in
+    let t = f .result .0 + a .j / 64 in
+    let k = a .j % 64 in
+    let h : k < 64 = omega arith in
+    let lt : t < length o = omega arith in
+    subst (λ (v : ℕ). Marked (a .m) (a .i) (a .j) o (set o t v)) (sym (code-on (getD o t 0) k true h (c .slice-known2 .given t .fits) refl))
+    (marked (a .m) (a .i) (a .j) t o (s .pre .1) (ap (λ (i : ℕ). i + a .j / 64) (f .ensures .from)) lt)
+
+pub mark-spec : {M : Type 1} → statement M
+mark-spec =
+    tie.close
+    (tie.spec
+    row-span-requires
+    add-t
+    mul-out
+    slice-read-out
+    shl-out
+    mul-out-2
+    slice-write-out
+    same-length
+    returns)

@@ -1,0 +1,62 @@
+use Rattle.cmpnt_list.proofs.Filling.{line-end}
+use Rattle.cmpnt_list.specs.Workers.{Filled}
+use Rattle.cmpnt_list.specs.Calls.{commuting}
+use Rattle.encoding.specs.Set.{mem, rowsOf, count, lay}
+use borrow.Author.Needs.{needs}
+use native.Mathlib.Omega.{arith}
+use mathlib.Core.Path.{_≡_, refl, sym, ap, _∙_}
+use Prim.Native.Nat.{ℕ, _+_, _*_, _-_, _/_, _<_, _≤_}
+use lib.ListN.{length, getD, drop, take, length-set}
+use Rattle.cmpnt_list.proofs.mark_line.Statement.{statement}
+use Rattle.cmpnt_list.proofs.mark_line.Tie as tie
+use Rattle.cmpnt_list.proofs.mark_line.Reads as reads
+use Rattle.cmpnt_list.proofs.mark_line.Lts as lts
+use Rattle.cmpnt_list.proofs.mark_pair.Reads as mark-pair-reads
+
+abbrev Inv-loop : tie.InvT-loop
+Inv-loop n x z phases i out₀ j₀ out j = (j ≤ i + 1) × Filled (commuting n (mem x z phases)) (length phases) i j out
+
+abbrev μ-loop : tie.MeasureT-loop
+μ-loop n x z phases i out₀ j₀ out j = i + 1 - j
+
+loop-holds : tie.Need-loop-holds Inv-loop μ-loop
+loop-holds c = (omega arith, c .before .before .before .before .pre .1 .1)
+
+mark-pair-requires : tie.Need-mark-pair-requires Inv-loop μ-loop
+mark-pair-requires c κs =
+    let i = c .before in
+    let s = i .before .before .before .before .before .before in
+    (s .pre .0, ((s .pre .1 .0, i .loop-test .taken), i .before .loop .inv .1))
+
+add-j : tie.Need-add-j Inv-loop μ-loop
+add-j c = search needs
+
+loop-less : tie.Need-loop-less Inv-loop μ-loop
+loop-less c = search needs
+
+loop-again : tie.Need-loop-again Inv-loop μ-loop
+loop-again c = (omega arith, c .before .before .mark-pair .ensures)
+
+same-length : tie.Need-same-length Inv-loop μ-loop
+same-length c = search needs
+
+returns : tie.Need-returns Inv-loop μ-loop
+returns c =
+    let s = c .before .before .before .before .before .before in
+    let a = s .args in
+    let M = mem (a .x .now) (a .z .now) (a .phases .now) in
+    line-end (commuting (a .n) M) (c .before .loop .inv .1) (omega arith)
+
+pub mark-line-spec : {M : Type 1} → statement M
+mark-line-spec =
+    tie.close
+    (tie.spec
+    Inv-loop
+    μ-loop
+    loop-holds
+    mark-pair-requires
+    add-j
+    loop-less
+    loop-again
+    same-length
+    returns)

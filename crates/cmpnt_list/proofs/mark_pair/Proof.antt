@@ -1,0 +1,48 @@
+use Rattle.cmpnt_list.proofs.Filling.{commute-sym, pair-yes, pair-no}
+use Rattle.cmpnt_list.specs.Workers.{Filled}
+use Rattle.cmpnt_list.specs.Calls.{commuting}
+use Rattle.encoding.specs.Set.{mem, rowsOf, count, lay}
+use native.Mathlib.Omega.{arith}
+use mathlib.Core.Path.{_≡_, refl, sym, ap, _∙_}
+use Prim.Native.Nat.{ℕ, _+_, _*_, _-_, _/_, _<_, _≤_}
+use lib.ListN.{length, getD, drop, take, length-set}
+use borrow.Author.Needs.{needs}
+use Rattle.cmpnt_list.proofs.mark_pair.Statement.{statement}
+use Rattle.cmpnt_list.proofs.mark_pair.Tie as tie
+use Rattle.cmpnt_list.proofs.mark_pair.Reads as reads
+use Rattle.cmpnt_list.proofs.mark_pair.Lts as lts
+use Rattle.cmpnt_list.proofs.commute_rows.Reads as commute-rows-reads
+use Rattle.cmpnt_list.proofs.mark.Reads as mark-reads
+
+commute-rows-requires : tie.Need-commute-rows-requires
+commute-rows-requires c κs = search needs
+
+mark-requires : tie.Need-mark-requires
+mark-requires c κs = search needs
+
+mark-requires-2 : tie.Need-mark-requires-2
+mark-requires-2 c κs = search needs
+
+same-length : tie.Need-same-length
+same-length c = search needs
+
+returns : tie.Need-returns
+returns c =
+    let s = c .before .before .before .before .before .before .before .before .before .before .before .before .before .before in
+    let a = s .args in
+    let M = mem (a .x .now) (a .z .now) (a .phases .now) in
+    pair-yes (commuting (a .n) M) (λ i j. commute-sym (a .n) (rowsOf (a .n) M i) (rowsOf (a .n) M j)) (s .pre .1 .0 .1) (s .pre .1 .1)
+    (sym (c .before .before .before .before .before .before .before .before .before .commute-rows .ensures) ∙ c .before .before .before .before .before .before .before .before .if1 .taken) (c .before .before .before .before .before .before .mark .ensures) (c .before .before .mark2 .ensures)
+
+returns-2 : tie.Need-returns-2
+returns-2 c =
+    let s = c .before .before .before .before .before .before in
+    let a = s .args in
+    let M = mem (a .x .now) (a .z .now) (a .phases .now) in
+    pair-no (commuting (a .n) M) (λ i j. commute-sym (a .n) (rowsOf (a .n) M i) (rowsOf (a .n) M j)) (s .pre .1 .0 .1) (s .pre .1 .1)
+    (sym (c .before .commute-rows .ensures) ∙ c .if1 .left)
+
+pub mark-pair-spec : {M : Type 1} → statement M
+mark-pair-spec =
+    tie.close
+    (tie.spec commute-rows-requires mark-requires mark-requires-2 same-length returns returns-2)

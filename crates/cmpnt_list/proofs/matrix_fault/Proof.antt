@@ -1,0 +1,39 @@
+use Rattle.encoding.specs.Refusals.{setTests}
+use Rattle.cmpnt_list.specs.Calls.{matrixTests}
+use Rattle.encoding.specs.Set.{mem, rowsOf, count, lay}
+use Rattle.cmpnt_list.proofs.Tests.{both-parts, matrix-asked}
+use native.Mathlib.Omega.{arith}
+use mathlib.Core.Path.{_≡_, refl, sym, ap, _∙_}
+use Prim.Native.Nat.{ℕ, _+_, _*_, _-_, _/_, _<_, _≤_}
+use lib.ListN.{length, getD, drop, take, length-set}
+use borrow.Author.Needs.{needs}
+use Rattle.cmpnt_list.proofs.matrix_fault.Statement.{statement}
+use Rattle.cmpnt_list.proofs.matrix_fault.Tie as tie
+use Rattle.cmpnt_list.proofs.matrix_fault.Reads as reads
+use Rattle.cmpnt_list.proofs.matrix_fault.Lts as lts
+use Rattle.cmpnt_list.proofs.square_fault.Reads as square-fault-reads
+use Rattle.encoding.proofs.set_fault.Reads as set-fault-reads
+use Rattle.encoding.proofs.smaller.Reads as smaller-reads
+
+set-fault-requires : tie.Need-set-fault-requires
+set-fault-requires c κs = search needs
+
+square-fault-requires : tie.Need-square-fault-requires
+square-fault-requires c κs = search needs
+
+smaller-requires : tie.Need-smaller-requires
+smaller-requires c κs = search needs
+
+returns : tie.Need-returns
+returns c =
+    let p = c .before in
+    let f = p .before in
+    let a = f .before .before .before .before .args in
+    let M = mem (a .x .now) (a .z .now) (a .phases .now) in (
+      both-parts (setTests (a .n) M) (matrixTests (count M) (a .size)) (f .set-fault .ensures .0) (p .square-fault .ensures) (c .smaller .ensures),
+      matrix-asked (a .n) M (a .size) (f .set-fault .ensures .0) (p .square-fault .ensures) (c .smaller .ensures) (f .set-fault .ensures .1),
+    )
+
+pub matrix-fault-spec : {M : Type 1} → statement M
+matrix-fault-spec =
+    tie.close (tie.spec set-fault-requires square-fault-requires smaller-requires returns)

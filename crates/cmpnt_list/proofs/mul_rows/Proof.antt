@@ -1,0 +1,99 @@
+use Rattle.encoding.specs.Limits.{wordsOf, maxRows}
+use mathlib.Core.Path.{subst}
+use Rattle.cmpnt_list.specs.Calls.{pairs}
+use Rattle.encoding.specs.Limits.{wordsOf}
+use Rattle.encoding.specs.Set.{mem, rowsOf, count, lay}
+use Rattle.cmpnt_list.proofs.Views.{Holds, laid-by}
+use Rattle.cmpnt_list.proofs.Pairing.{holds-none, holds-more, all-long}
+use borrow.Author.Needs.{needs}
+use native.Mathlib.Omega.{arith}
+use mathlib.Core.Path.{_≡_, refl, sym, ap, _∙_}
+use Prim.Native.Nat.{ℕ, _+_, _*_, _-_, _/_, _<_, _≤_}
+use lib.ListN.{length, getD, drop, take, length-set}
+use Rattle.cmpnt_list.proofs.mul_rows.Statement.{statement}
+use Rattle.cmpnt_list.proofs.mul_rows.Tie as tie
+use Rattle.cmpnt_list.proofs.mul_rows.Reads as reads
+use Rattle.cmpnt_list.proofs.mul_rows.Lts as lts
+use Rattle.cmpnt_list.proofs.mul_part.Reads as mul-part-reads
+use Rattle.cmpnt_list.proofs.row_span.Reads as row-span-reads
+
+abbrev Inv-loop : tie.InvT-loop
+Inv-loop n lx lz lp rx rz rp ox₀ oz₀ op₀ m r₀ ox oz op r = (r ≤ m) × (m ≡ length lp) × Holds (wordsOf n) (length lp) r (pairs n (mem lx lz lp) (mem rx rz rp)) (mem ox oz op)
+
+abbrev μ-loop : tie.MeasureT-loop
+μ-loop n lx lz lp rx rz rp ox₀ oz₀ op₀ m r₀ ox oz op r = m - r
+
+loop-holds : tie.Need-loop-holds Inv-loop μ-loop
+loop-holds c =
+    let s = c .before .before .before .before .before .before .before .before .before in
+    (omega arith, s .pre .1 .rows, holds-none (s .args .n) (s .pre .0) (s .pre .1))
+
+row-span-requires : tie.Need-row-span-requires Inv-loop μ-loop
+row-span-requires c κs =
+    let s = c .before .before .before .before .before .before .before .before .before .before .before in
+    (c .loop-test .taken, s .pre .0 .left .few-qubits, subst (λ (k : ℕ). k ≤ maxRows) (sym (c .before .loop .inv .1)) (s .pre .0 .left .few-rows))
+
+mul-part-requires : tie.Need-mul-part-requires Inv-loop μ-loop
+mul-part-requires c κs =
+    let s = c .before .before .before .before .before .before .before .before .before .before .before .before .before .before in
+    let w = c .before .before .before .before in
+    let at = c .before .before .row-span .ensures in
+    let le : c .before .before .row-span .result .0 ≤ c .before .before .row-span .result .1 = omega arith in
+    let inside : c .before .before .row-span .result .1 ≤ length (s .args .lx .now) =
+    subst (λ (k : ℕ). c .before .before .row-span .result .1 ≤ k) (ap (λ (k : ℕ). k * wordsOf (s .args .n)) (w .loop .inv .1) ∙ sym (s .pre .0 .left .valid .x-long)) (at .inside) in
+    ((le, inside), all-long (s .args .n) (s .pre .0) (s .pre .1 .same) (w .loop .inv .2))
+
+slice-write-op : tie.Need-slice-write-op Inv-loop μ-loop
+slice-write-op c = search needs
+
+add-r : tie.Need-add-r Inv-loop μ-loop
+add-r c = search needs
+
+loop-less : tie.Need-loop-less Inv-loop μ-loop
+loop-less c = search needs
+
+loop-again : tie.Need-loop-again Inv-loop μ-loop
+loop-again c =
+    let w = c .before .before .before .before .before .before .before .before .before in
+    let s = w .before .before .before .before .before .before .before .before .before .before in
+    let h : w .loop .r < length (s .args .lp .now) = omega arith in (
+      omega arith,
+      w .loop .inv .1,
+      holds-more (s .args .n) (s .pre .0) h (subst (λ (k : ℕ). w .loop .r < k) (sym (s .pre .1 .same)) h) (c .before .before .before .before .before .before .before .row-span .ensures) (w .loop .inv .2) (c .before .before .before .before .mul-part .ensures),
+    )
+
+same-length : tie.Need-same-length Inv-loop μ-loop
+same-length c = search needs
+
+same-length-2 : tie.Need-same-length-2 Inv-loop μ-loop
+same-length-2 c = search needs
+
+same-length-3 : tie.Need-same-length-3 Inv-loop μ-loop
+same-length-3 c = search needs
+
+returns : tie.Need-returns Inv-loop μ-loop
+returns c =
+    let w = c .before in
+    let a = w .before .before .before .before .before .before .before .before .before .before .args in
+    let L = mem (a .lx .now) (a .lz .now) (a .lp .now) in
+    let R = mem (a .rx .now) (a .rz .now) (a .rp .now) in
+    let e : w .loop .r ≡ length (a .lp .now) = omega arith in
+    laid-by (subst (λ (k : ℕ). Holds (wordsOf (a .n)) (length (a .lp .now)) k (pairs (a .n) L R) (mem (w .loop .ox) (w .loop .oz) (w .loop .op))) e (w .loop .inv .2))
+
+pub mul-rows-spec : {M : Type 1} → statement M
+mul-rows-spec =
+    tie.close
+    (tie.spec
+    Inv-loop
+    μ-loop
+    loop-holds
+    row-span-requires
+    mul-part-requires
+    slice-write-op
+    add-r
+    loop-less
+    loop-again
+    same-length
+    same-length-2
+    same-length-3
+    returns)

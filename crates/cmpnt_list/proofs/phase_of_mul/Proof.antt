@@ -1,0 +1,44 @@
+use Rattle.pauli.specs.Rows.{phaseOf}
+use Rattle.cmpnt_list.specs.Calls.{phaseOfMul, phaseOr}
+use Rattle.cmpnt_list.specs.declared.Phase.the-variants as phase
+use Rattle.encoding.specs.Set.{mem, rowsOf, count, lay}
+use Rattle.cmpnt_list.proofs.Tests.{refusing, passing, both-small}
+use native.Mathlib.Omega.{arith}
+use mathlib.Core.Path.{_≡_, refl, sym, ap, _∙_}
+use Prim.Native.Nat.{ℕ, _+_, _*_, _-_, _/_, _<_, _≤_}
+use lib.ListN.{length, getD, drop, take, length-set}
+use borrow.Author.Needs.{needs}
+use Rattle.cmpnt_list.proofs.phase_of_mul.Statement.{statement}
+use Rattle.cmpnt_list.proofs.phase_of_mul.Tie as tie
+use Rattle.cmpnt_list.proofs.phase_of_mul.Reads as reads
+use Rattle.cmpnt_list.proofs.phase_of_mul.Lts as lts
+use Rattle.cmpnt_list.proofs.phase_rows.Reads as phase-rows-reads
+use Rattle.cmpnt_list.proofs.row_fault.Reads as row-fault-reads
+
+row-fault-requires : tie.Need-row-fault-requires
+row-fault-requires c κs = search needs
+
+returns : tie.Need-returns
+unfolding phaseOfMul
+returns c =
+    let a = c .before .before .before .before .before .before .before .args in
+    let M = mem (a .x .now) (a .z .now) (a .phases .now) in
+    refusing phase.Refused (λ (k : ℕ). phaseOr k (phaseOf (a .n) (rowsOf (a .n) M (a .a .0)) (rowsOf (a .n) M (a .b .0)))) (λ k. refl) (c .before .row-fault .ensures .0) (c .if1 .taken)
+
+phase-rows-requires : tie.Need-phase-rows-requires
+phase-rows-requires c κs =
+    let a = c .before .before .before .before .before .before .before .args in
+    let m = length (a .phases .now) in
+    let k = c .before .row-fault .ensures .1 (c .if1 .left) in
+    (k .ready, both-small m (a .a .0) m (a .b .0) (k .small))
+
+returns-2 : tie.Need-returns-2
+unfolding phaseOfMul
+returns-2 c =
+    let a = c .before .before .before .before .before .before .before .before .args in
+    let M = mem (a .x .now) (a .z .now) (a .phases .now) in
+    ap (λ (e : ℕ). phase.Exponent (record { 0 = e })) (c .phase-rows .ensures)
+    ∙ passing (λ (k : ℕ). phaseOr k (phaseOf (a .n) (rowsOf (a .n) M (a .a .0)) (rowsOf (a .n) M (a .b .0)))) (c .before .before .row-fault .ensures .0) (c .before .if1 .left)
+
+pub phase-of-mul-spec : {M : Type 1} → statement M
+phase-of-mul-spec = tie.close (tie.spec row-fault-requires returns phase-rows-requires returns-2)

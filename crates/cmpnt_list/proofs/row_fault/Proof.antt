@@ -1,0 +1,36 @@
+use Rattle.encoding.specs.Set.{mem, rowsOf, count, lay}
+use Rattle.cmpnt_list.proofs.Tests.{read-fault, read-asked}
+use native.Mathlib.Omega.{arith}
+use mathlib.Core.Path.{_≡_, refl, sym, ap, _∙_}
+use Prim.Native.Nat.{ℕ, _+_, _*_, _-_, _/_, _<_, _≤_}
+use lib.ListN.{length, getD, drop, take, length-set}
+use borrow.Author.Needs.{needs}
+use Rattle.cmpnt_list.proofs.row_fault.Statement.{statement}
+use Rattle.cmpnt_list.proofs.row_fault.Tie as tie
+use Rattle.cmpnt_list.proofs.row_fault.Reads as reads
+use Rattle.cmpnt_list.proofs.row_fault.Lts as lts
+use Rattle.encoding.proofs.pick.Reads as pick-reads
+use Rattle.encoding.proofs.set_fault.Reads as set-fault-reads
+use Rattle.encoding.proofs.smaller.Reads as smaller-reads
+
+set-fault-requires : tie.Need-set-fault-requires
+set-fault-requires c κs = search needs
+
+pick-requires : tie.Need-pick-requires
+pick-requires c κs = search needs
+
+smaller-requires : tie.Need-smaller-requires
+smaller-requires c κs = search needs
+
+returns : tie.Need-returns
+returns c =
+    let p = c .before in
+    let f = p .before in
+    let a = f .before .before .before .before .args in
+    let M = mem (a .x .now) (a .z .now) (a .phases .now) in (
+      read-fault (a .n) M (a .large) (f .set-fault .ensures .0) (p .pick .ensures) (c .smaller .ensures),
+      read-asked (a .n) M (a .large) (f .set-fault .ensures .0) (p .pick .ensures) (c .smaller .ensures) (f .set-fault .ensures .1),
+    )
+
+pub row-fault-spec : {M : Type 1} → statement M
+row-fault-spec = tie.close (tie.spec set-fault-requires pick-requires smaller-requires returns)

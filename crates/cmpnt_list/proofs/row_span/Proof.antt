@@ -1,0 +1,30 @@
+use Rattle.cmpnt_list.proofs.Views.{row-at, row-small}
+use native.Mathlib.Omega.{arith}
+use mathlib.Core.Path.{_≡_, refl, sym, ap, _∙_}
+use Prim.Native.Nat.{ℕ, _+_, _*_, _-_, _/_, _<_, _≤_}
+use lib.ListN.{length, getD, drop, take, length-set}
+use borrow.Author.Needs.{needs}
+use Rattle.cmpnt_list.proofs.row_span.Statement.{statement}
+use Rattle.cmpnt_list.proofs.row_span.Tie as tie
+use Rattle.cmpnt_list.proofs.row_span.Reads as reads
+use Rattle.cmpnt_list.proofs.row_span.Lts as lts
+use Rattle.encoding.proofs.words.Reads as words-reads
+
+words-requires : tie.Need-words-requires
+words-requires c κs = search needs
+
+mul-a : tie.Need-mul-a
+mul-a c =
+    let s = c .before in
+    omega (arith, row-small (s .args .r) (s .args .n) (s .args .m) (s .pre .0) (s .pre .1) (s .pre .2) (c .words .ensures))
+
+add-t6 : tie.Need-add-t6
+add-t6 c =
+    let s = c .before in
+    omega (arith, row-small (s .args .r) (s .args .n) (s .args .m) (s .pre .0) (s .pre .1) (s .pre .2) (c .words .ensures))
+
+returns : tie.Need-returns
+returns c = row-at (c .before .args .r) (c .before .args .n) (c .before .args .m) (c .before .pre .0) (c .words .ensures)
+
+pub row-span-spec : {M : Type 1} → statement M
+row-span-spec = tie.close (tie.spec words-requires mul-a add-t6 returns)

@@ -1,0 +1,68 @@
+use Rattle.pauli.specs.Rows.{withQubit}
+use Rattle.encoding.specs.declared.Answer.the-variants.{Done, Refused}
+use Rattle.encoding.specs.Set.{Mem}
+use Rattle.encoding.specs.Refusals.{doneOr, leftOr}
+use Rattle.encoding.specs.Set.{mem, rowsOf, count, lay}
+use Rattle.cmpnt_list.proofs.Tests.{refusing, passing, both-small}
+use native.Mathlib.Omega.{arith}
+use mathlib.Core.Path.{_≡_, refl, sym, ap, _∙_}
+use Prim.Native.Nat.{ℕ, _+_, _*_, _-_, _/_, _<_, _≤_}
+use lib.ListN.{length, getD, drop, take, length-set}
+use borrow.Author.Needs.{needs}
+use Rattle.cmpnt_list.proofs.set_qubit.Statement.{statement}
+use Rattle.cmpnt_list.proofs.set_qubit.Tie as tie
+use Rattle.cmpnt_list.proofs.set_qubit.Reads as reads
+use Rattle.cmpnt_list.proofs.set_qubit.Lts as lts
+use Rattle.cmpnt_list.proofs.row_fault.Reads as row-fault-reads
+use Rattle.cmpnt_list.proofs.write_qubit.Reads as write-qubit-reads
+
+row-fault-requires : tie.Need-row-fault-requires
+row-fault-requires c κs = search needs
+
+same-length : tie.Need-same-length
+same-length c = search needs
+
+same-length-2 : tie.Need-same-length-2
+same-length-2 c = search needs
+
+returns : tie.Need-returns
+returns c =
+    let a = c .before .before .before .before .before .before .before .before .before .args in
+    let M = mem (a .x .now) (a .z .now) (a .phases .now) in
+    let new = lay (a .n) (count M) (withQubit (rowsOf (a .n) M) (a .row .0) (a .qubit .0) (a .pauli)) in
+    let e = c .before .row-fault .ensures .0 in
+    record { answer = refusing Refused doneOr (λ k. refl) e (c .if1 .taken); rows = refusing (λ (k : ℕ). M) (λ (k : ℕ). leftOr k M new) (λ k. refl) e (c .if1 .taken) }
+
+write-qubit-requires : tie.Need-write-qubit-requires
+write-qubit-requires c κs =
+    let a = c .before .before .before .before .before .before .before .before .before .before .before .args in
+    let k = c .before .before .before .row-fault .ensures .1 (c .before .before .if1 .left) in
+    (k .ready, both-small (length (a .phases .now)) (a .row .0) (a .n) (a .qubit .0) (k .small))
+
+same-length-3 : tie.Need-same-length-3
+same-length-3 c = search needs
+
+same-length-4 : tie.Need-same-length-4
+same-length-4 c = search needs
+
+returns-2 : tie.Need-returns-2
+returns-2 c =
+    let a = c .before .before .before .before .before .before .before .before .before .before .before .before .before .before .before .before .args in
+    let M = mem (a .x .now) (a .z .now) (a .phases .now) in
+    let new = lay (a .n) (count M) (withQubit (rowsOf (a .n) M) (a .row .0) (a .qubit .0) (a .pauli)) in
+    let e = c .before .before .before .before .before .before .before .before .row-fault .ensures .0 in
+    let z = c .before .before .before .before .before .before .before .if1 .left in
+    record { answer = passing doneOr e z; rows = c .before .before .before .before .write-qubit .ensures ∙ passing (λ (k : ℕ). leftOr k M new) e z }
+
+pub set-qubit-spec : {M : Type 1} → statement M
+set-qubit-spec =
+    tie.close
+    (tie.spec
+    row-fault-requires
+    same-length
+    same-length-2
+    returns
+    write-qubit-requires
+    same-length-3
+    same-length-4
+    returns-2)

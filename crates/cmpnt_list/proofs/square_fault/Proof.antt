@@ -1,0 +1,29 @@
+use Rattle.cmpnt_list.proofs.Tests.{matrix-many, matrix-size}
+use native.Mathlib.Omega.{arith}
+use mathlib.Core.Path.{_≡_, refl, sym, ap, _∙_}
+use Prim.Native.Nat.{ℕ, _+_, _*_, _-_, _/_, _<_, _≤_}
+use lib.ListN.{length, getD, drop, take, length-set}
+use borrow.Author.Needs.{needs}
+use Rattle.cmpnt_list.proofs.square_fault.Statement.{statement}
+use Rattle.cmpnt_list.proofs.square_fault.Tie as tie
+use Rattle.cmpnt_list.proofs.square_fault.Reads as reads
+use Rattle.cmpnt_list.proofs.square_fault.Lts as lts
+use Rattle.cmpnt_list.proofs.matrix_size.Reads as matrix-size-reads
+use Rattle.encoding.proofs.pick.Reads as pick-reads
+
+returns : tie.Need-returns
+returns c = matrix-many (c .before .args .m) (c .before .args .size) (c .if1 .taken)
+
+matrix-size-requires : tie.Need-matrix-size-requires
+matrix-size-requires c κs = search needs
+
+pick-requires : tie.Need-pick-requires
+pick-requires c κs = search needs
+
+returns-2 : tie.Need-returns-2
+returns-2 c =
+    let a = c .before .before .before .args in
+    matrix-size (a .m) (a .size) (c .before .before .if1 .left) (c .before .matrix-size .ensures) (c .pick .ensures)
+
+pub square-fault-spec : {M : Type 1} → statement M
+square-fault-spec = tie.close (tie.spec returns matrix-size-requires pick-requires returns-2)

@@ -1,0 +1,38 @@
+use Rattle.encoding.specs.Refusals.{outTests}
+use Rattle.cmpnt_list.specs.Calls.{differentRows}
+use Rattle.encoding.specs.Set.{mem, rowsOf, count, lay}
+use Rattle.cmpnt_list.proofs.Tests.{both-parts, different-is, third-ready}
+use native.Mathlib.Omega.{arith}
+use mathlib.Core.Path.{_≡_, refl, sym, ap, _∙_}
+use Prim.Native.Nat.{ℕ, _+_, _*_, _-_, _/_, _<_, _≤_}
+use lib.ListN.{length, getD, drop, take, length-set}
+use borrow.Author.Needs.{needs}
+use Rattle.cmpnt_list.proofs.third_fault.Statement.{statement}
+use Rattle.cmpnt_list.proofs.third_fault.Tie as tie
+use Rattle.cmpnt_list.proofs.third_fault.Reads as reads
+use Rattle.cmpnt_list.proofs.third_fault.Lts as lts
+use Rattle.encoding.proofs.out_fault.Reads as out-fault-reads
+use Rattle.encoding.proofs.pick.Reads as pick-reads
+use Rattle.encoding.proofs.smaller.Reads as smaller-reads
+
+pick-requires : tie.Need-pick-requires
+pick-requires c κs = search needs
+
+out-fault-requires : tie.Need-out-fault-requires
+out-fault-requires c κs = search needs
+
+smaller-requires : tie.Need-smaller-requires
+smaller-requires c κs = search needs
+
+returns : tie.Need-returns
+returns c =
+    let o = c .before in
+    let p = o .before in
+    let a = p .before .before .before .before .args in
+    let O = mem (a .ox .now) (a .oz .now) (a .op .now) in (
+      both-parts (differentRows (a .m) (a .k)) (outTests (a .n) (a .m) O) (p .pick .ensures ∙ different-is (a .m) (a .k)) (o .out-fault .ensures) (c .smaller .ensures),
+      third-ready (a .n) (a .m) (a .k) O (p .pick .ensures) (o .out-fault .ensures) (c .smaller .ensures),
+    )
+
+pub third-fault-spec : {M : Type 1} → statement M
+third-fault-spec = tie.close (tie.spec pick-requires out-fault-requires smaller-requires returns)

@@ -1,0 +1,89 @@
+-- What the private functions ask and leave: a set that passed its tests, where a row lies in it, what the masks count, and how far the loops over
+-- pairs of rows and over the rows of a product have come. Assumes nothing.
+use mathlib.Core.Path.{_≡_}
+use mathlib.Core.Bool.{Bool, true, false}
+use mathlib.Core.Logic.{_⊎_}
+use mathlib.Core.List.{List, []}
+use Prim.Native.Nat.{ℕ, zero, suc, _+_, _-_, _*_, _≤_, _<_}
+use lib.ListN.{length, getD}
+use Rattle.pauli.specs.Pauli.{Pauli}
+use Rattle.pauli.specs.declared.PauliMatrix.the-variants.{I, X, Y, Z}
+use Rattle.pauli.specs.Row.{Row}
+use Rattle.pauli.specs.Rows.{holding, actOn, actPhaseOn}
+use Rattle.encoding.specs.Limits.{maxQubits, maxRows, wordsOf}
+use Rattle.encoding.specs.Words.{bitAt}
+use Rattle.encoding.specs.Set.{Mem, count, Valid}
+use Rattle.cmpnt_list.specs.Calls.{stateOf, layState}
+
+-- no test of the set holds
+pub record Ready (n : ℕ) (M : Mem) : Type 0 where
+  pub valid : Valid n (wordsOf n) M
+  pub few-qubits : n ≤ maxQubits
+  pub few-rows : count M ≤ maxRows
+
+-- no test of the set holds, and no number is too large
+pub record Asked (n : ℕ) (M : Mem) (large : Bool) : Type 0 where
+  pub ready : Ready n M
+  pub small : large ≡ false
+
+-- the same of a set whose matrix is lent in size words
+pub record AskedMatrix (n : ℕ) (M : Mem) (size : ℕ) : Type 0 where
+  pub ready : Ready n M
+  pub fits : size ≡ count M * wordsOf (count M)
+
+-- the same of the three sets of a pairwise product: a left one of m rows, a right one of k
+pub record BothReady (n : ℕ) (L R : Mem) : Type 0 where
+  pub left : Ready n L
+  pub right : Ready n R
+
+pub record ThirdReady (n m k : ℕ) (O : Mem) : Type 0 where
+  pub same : k ≡ m
+  pub rows : count O ≡ m
+  pub x-long : length (O .xs) ≡ m * wordsOf n
+  pub z-long : length (O .zs) ≡ m * wordsOf n
+
+-- row r of m rows of w words is the part from a to e
+pub record RowAt (r w m a e : ℕ) : Type 0 where
+  pub from : a ≡ r * w
+  pub to : e ≡ r * w + w
+  pub inside : e ≤ m * w
+
+-- ---- counts: what the masks count, for I the qubits that hold another, and the number from it
+
+unfoldable pub masked : Pauli → List Pauli → ℕ
+masked I ps = holding X ps + holding Y ps + holding Z ps
+masked X ps = holding X ps
+masked Y ps = holding Y ps
+masked Z ps = holding Z ps
+
+abbrev pub fromMasks : Pauli → ℕ → ℕ → ℕ
+fromMasks I n k = n - k
+fromMasks X n k = k
+fromMasks Y n k = k
+fromMasks Z n k = k
+
+-- ---- the matrix: the pairs before (i, j) are done, both ways round, in rows of m bits
+
+abbrev pub Seen : ℕ → ℕ → ℕ → ℕ → Type 0
+Seen i j r c = ((r < i) × (c < i)) ⊎ (((r ≡ i) × (c < j)) ⊎ ((c ≡ i) × (r < j)))
+
+pub record Filled (bits : ℕ → ℕ → Bool) (m i j : ℕ) (out : List ℕ) : Type 0 where
+  pub long : length out ≡ m * wordsOf m
+  pub done : (r a k : ℕ) → r < m → a < wordsOf m → k < 64 → Seen i j r (a * 64 + k) → bitAt out (r * wordsOf m + a) k ≡ bits r (a * 64 + k)
+  pub rest : (r a k : ℕ) → r < m → a < wordsOf m → k < 64 → (Seen i j r (a * 64 + k) → ⊥) → bitAt out (r * wordsOf m + a) k ≡ false
+
+-- bit j of row i is set, and nothing else has changed
+pub record Marked (m i j : ℕ) (old new : List ℕ) : Type 0 where
+  pub long : length new ≡ length old
+  pub here : (r a k : ℕ) → a < wordsOf m → k < 64 → r ≡ i → a * 64 + k ≡ j → bitAt new (r * wordsOf m + a) k ≡ true
+  pub other : (r a k : ℕ) → a < wordsOf m → k < 64 → (r ≡ i → a * 64 + k ≡ j → ⊥) → bitAt new (r * wordsOf m + a) k ≡ bitAt old (r * wordsOf m + a) k
+
+pub record Zeros (old new : List ℕ) : Type 0 where
+  pub long : length new ≡ length old
+  pub zero-at : (t : ℕ) → getD new t 0 ≡ 0
+
+-- ---- a row on a basis state: the state's words, and the exponent
+
+pub record StateActed (n : ℕ) (r : Row) (st st′ : List ℕ) (e : ℕ) : Type 0 where
+  pub state : st′ ≡ layState n (actOn n r (stateOf n st))
+  pub exponent : e ≡ actPhaseOn n r (stateOf n st)

@@ -1,0 +1,573 @@
+// The calls over a row set. Each tests first, as the table of refusals says, and then works; what it answers and leaves stands in specs/Calls.antt.
+ghost use mathlib.Core.Path.{_≡_};
+ghost use mathlib.Core.Bool.{Bool, false, not, _||_};
+ghost use Prim.Native.Nat.{ℕ, _+_, _*_, _≤_, _<_};
+ghost use lib.Count.{ones};
+ghost use lib.Dec.{eqb, leb};
+ghost use lib.ListN.{length, getD};
+ghost use Rattle.pauli.specs.Pauli.{Pauli};
+ghost use Rattle.pauli.specs.declared.PauliMatrix.the-variants.{I};
+ghost use Rattle.pauli.specs.Rows.{phaseOf, commute, central, countOf, pairRow, withQubit, actOn, actPhaseOn};
+ghost use Rattle.encoding.specs.Limits.{maxQubits, maxRows, wordsOf};
+ghost use Rattle.encoding.specs.Words.{word, unpack};
+ghost use Rattle.encoding.specs.Set.{mem, count, rowsOf, lay};
+ghost use Rattle.encoding.specs.Refusals.{fault, joined, setTests, outTests, stateTests};
+ghost use Rattle.products.specs.Leaves.{SameLength, ProductAt};
+ghost use Rattle.cmpnt_list.specs.Calls.{readFault, matrixTests, matrixFault, differentRows, laidMatrix, commuting, pairs, getQubit, SetQubit, countIn, phaseOfMul, commutesWith, belongsToCentralizer, CompatibilityMatrix, MulPairwise, ImulState};
+ghost use Rattle.cmpnt_list.specs.Workers.{Ready, Asked, AskedMatrix, BothReady, ThirdReady, RowAt, masked, fromMasks, Filled, Marked, Zeros, StateActed};
+use encoding::Answer;
+use pauli::ComplexSign;
+use pauli::PauliMatrix;
+use pauli::QubitNumber;
+use pauli::RowNumber;
+
+// What reading a qubit answers.
+pub enum Got {
+    Is(PauliMatrix),
+    Refused(u8),
+}
+
+// What counting answers.
+pub enum Tally {
+    Number(u64),
+    Refused(u8),
+}
+
+// What a call answers that gives a power of i.
+pub enum Phase {
+    Exponent(ComplexSign),
+    Refused(u8),
+}
+
+// What a question answers.
+pub enum Truth {
+    Is(bool),
+    Refused(u8),
+}
+
+// Where a row starts, and where it ends.
+struct Span(usize, usize);
+
+// The first number of the table that fits a set that is read and its call's numbers, or 0; large says that a number is too large.
+fn row_fault(n: usize, x: &[u64], z: &[u64], phases: &[u8], large: bool) -> u8
+    ensures { λ r. ⌜ r ≡ readFault n (mem (now (x .entry)) (now (z .entry)) (now (phases .entry))) large ⌝ }
+    ensures none { λ r. ⌜ (r ≡ 0 → Asked n (mem (now (x .entry)) (now (z .entry)) (now (phases .entry))) large) ⌝ }
+{
+    encoding::smaller(
+        encoding::set_fault(n, x, z, phases),
+        encoding::pick(large, 6, 0),
+    )
+}
+
+// Where row r of m rows of n qubits lies.
+fn row_span(r: usize, n: usize, m: usize) -> Span
+    requires { ⌜ (r < m) × (n ≤ maxQubits) × (m ≤ maxRows) ⌝ }
+    ensures { λ s. ⌜ RowAt r (wordsOf n) m (s .0) (s .1) ⌝ }
+{
+    let w = encoding::words(n);
+    let a = r * w;
+    Span(a, a + w)
+}
+
+// The Pauli at qubit q of row r.
+fn read_qubit(n: usize, x: &[u64], z: &[u64], phases: &[u8], r: usize, q: usize) -> PauliMatrix
+    requires { ⌜ Ready n (mem (now x) (now z) (now phases)) ⌝ }
+    requires { ⌜ (r < length (now phases)) × (q < n) ⌝ }
+    ensures { λ p. ⌜ p ≡ getD (rowsOf n (mem (now (x .entry)) (now (z .entry)) (now (phases .entry))) r .ps) q I ⌝ }
+{
+    let s = row_span(r, n, phases.len());
+    let a = s.0;
+    let e = s.1;
+    encoding::get_qubit(&x[a..e], &z[a..e], QubitNumber(q))
+}
+
+// The Pauli at a qubit of a row.
+pub fn get_qubit(
+    n: usize,
+    x: &[u64],
+    z: &[u64],
+    phases: &[u8],
+    row: RowNumber,
+    qubit: QubitNumber,
+) -> Got
+    ensures { λ a. ⌜ a ≡ getQubit n (mem (now (x .entry)) (now (z .entry)) (now (phases .entry))) (row .0) (qubit .0) ⌝ }
+{
+    let a = phases.len() <= row.0;
+    let b = n <= qubit.0;
+    let f = row_fault(n, x, z, phases, a | b);
+    if f != 0 {
+        return Got::Refused(f);
+    }
+    Got::Is(read_qubit(n, x, z, phases, row.0, qubit.0))
+}
+
+// Qubit q of row r becomes a Pauli.
+fn write_qubit(
+    n: usize,
+    x: &mut [u64],
+    z: &mut [u64],
+    phases: &[u8],
+    r: usize,
+    q: usize,
+    pauli: PauliMatrix,
+)
+    requires { ⌜ Ready n (mem (now x) (now z) (now phases)) ⌝ }
+    requires { ⌜ (r < length (now phases)) × (q < n) ⌝ }
+    ensures { λ _. ⌜ mem (now (x .exit)) (now (z .exit)) (now (phases .entry)) ≡ lay n (length (now (phases .entry))) (withQubit (rowsOf n (mem (now (x .entry)) (now (z .entry)) (now (phases .entry)))) r q pauli) ⌝ }
+{
+    let s = row_span(r, n, phases.len());
+    let a = s.0;
+    let e = s.1;
+    encoding::set_qubit(&mut x[a..e], &mut z[a..e], QubitNumber(q), pauli);
+}
+
+// A qubit of a row becomes a Pauli.
+pub fn set_qubit(
+    n: usize,
+    x: &mut [u64],
+    z: &mut [u64],
+    phases: &[u8],
+    row: RowNumber,
+    qubit: QubitNumber,
+    pauli: PauliMatrix,
+) -> Answer
+    ensures { λ a. ⌜ SetQubit n (mem (now (x .entry)) (now (z .entry)) (now (phases .entry))) (row .0) (qubit .0) pauli (mem (now (x .exit)) (now (z .exit)) (now (phases .entry))) a ⌝ }
+{
+    let a = phases.len() <= row.0;
+    let b = n <= qubit.0;
+    let f = row_fault(n, x, z, phases, a | b);
+    if f != 0 {
+        return Answer::Refused(f);
+    }
+    write_qubit(n, x, z, phases, row.0, qubit.0, pauli);
+    Answer::Done
+}
+
+// How many bits of x are set.
+fn ones_in(x: u64) -> u64
+    ensures { λ r. ⌜ (r ≡ ones x) × (r ≤ 64) ⌝ }
+{
+    u64::count_ones(x) as u64
+}
+
+// The number of qubits of a word that hold the Pauli; of I, the number of the others.
+fn count_word(x: u64, z: u64, p: PauliMatrix) -> u64
+    ensures { λ r. ⌜ (r ≡ masked p (word 64 x z)) × (r ≤ 64) ⌝ }
+{
+    match p {
+        PauliMatrix::I => ones_in(x | z),
+        PauliMatrix::X => ones_in(x & !z),
+        PauliMatrix::Y => ones_in(x & z),
+        PauliMatrix::Z => ones_in(!x & z),
+    }
+}
+
+// The same of a row.
+fn count_row(x: &[u64], z: &[u64], p: PauliMatrix) -> u64
+    requires { ⌜ (length (now x) ≤ maxQubits) × (length (now z) ≡ length (now x)) ⌝ }
+    ensures { λ r. ⌜ r ≡ masked p (unpack (now (x .entry)) (now (z .entry))) ⌝ }
+{
+    let mut k: u64 = 0;
+    let mut i = 0;
+    while i < x.len() {
+        k += count_word(x[i], z[i], p);
+        i += 1;
+    }
+    k
+}
+
+// The number of qubits that hold the Pauli, of n, from what the masks count.
+fn from_masks(p: PauliMatrix, n: usize, k: u64) -> u64
+    requires { ⌜ (n ≤ maxQubits) × (k ≤ n) ⌝ }
+    ensures { λ r. ⌜ r ≡ fromMasks p n k ⌝ }
+{
+    let all = n as u64;
+    match p {
+        PauliMatrix::I => all - k,
+        PauliMatrix::X => k,
+        PauliMatrix::Y => k,
+        PauliMatrix::Z => k,
+    }
+}
+
+// The number of qubits of row r that hold the Pauli.
+fn count_in(n: usize, x: &[u64], z: &[u64], phases: &[u8], r: usize, pauli: PauliMatrix) -> u64
+    requires { ⌜ Ready n (mem (now x) (now z) (now phases)) ⌝ }
+    requires { ⌜ r < length (now phases) ⌝ }
+    ensures { λ k. ⌜ k ≡ countOf n pauli (rowsOf n (mem (now (x .entry)) (now (z .entry)) (now (phases .entry))) r) ⌝ }
+{
+    let s = row_span(r, n, phases.len());
+    let a = s.0;
+    let e = s.1;
+    let k = count_row(&x[a..e], &z[a..e], pauli);
+    from_masks(pauli, n, k)
+}
+
+// How many qubits of a row hold a Pauli.
+pub fn count(
+    n: usize,
+    x: &[u64],
+    z: &[u64],
+    phases: &[u8],
+    row: RowNumber,
+    pauli: PauliMatrix,
+) -> Tally
+    ensures { λ a. ⌜ a ≡ countIn n (mem (now (x .entry)) (now (z .entry)) (now (phases .entry))) (row .0) pauli ⌝ }
+{
+    let f = row_fault(n, x, z, phases, phases.len() <= row.0);
+    if f != 0 {
+        return Tally::Refused(f);
+    }
+    Tally::Number(count_in(n, x, z, phases, row.0, pauli))
+}
+
+// The exponent of the product of rows a and b.
+fn phase_rows(n: usize, x: &[u64], z: &[u64], phases: &[u8], a: usize, b: usize) -> ComplexSign
+    requires { ⌜ Ready n (mem (now x) (now z) (now phases)) ⌝ }
+    requires { ⌜ (a < length (now phases)) × (b < length (now phases)) ⌝ }
+    ensures { λ r. ⌜ r .0 ≡ phaseOf n (rowsOf n (mem (now (x .entry)) (now (z .entry)) (now (phases .entry))) a) (rowsOf n (mem (now (x .entry)) (now (z .entry)) (now (phases .entry))) b) ⌝ }
+{
+    let s = row_span(a, n, phases.len());
+    let t = row_span(b, n, phases.len());
+    let la = s.0;
+    let le = s.1;
+    let ra = t.0;
+    let re = t.1;
+    products::mul_op_op_phase(&x[la..le], &z[la..le], &x[ra..re], &z[ra..re])
+}
+
+// The exponent of the product of two rows, without the rows' own.
+pub fn phase_of_mul(
+    n: usize,
+    x: &[u64],
+    z: &[u64],
+    phases: &[u8],
+    a: RowNumber,
+    b: RowNumber,
+) -> Phase
+    ensures { λ r. ⌜ r ≡ phaseOfMul n (mem (now (x .entry)) (now (z .entry)) (now (phases .entry))) (a .0) (b .0) ⌝ }
+{
+    let i = phases.len() <= a.0;
+    let j = phases.len() <= b.0;
+    let f = row_fault(n, x, z, phases, i | j);
+    if f != 0 {
+        return Phase::Refused(f);
+    }
+    Phase::Exponent(phase_rows(n, x, z, phases, a.0, b.0))
+}
+
+// Whether rows a and b commute.
+fn commute_rows(n: usize, x: &[u64], z: &[u64], phases: &[u8], a: usize, b: usize) -> bool
+    requires { ⌜ Ready n (mem (now x) (now z) (now phases)) ⌝ }
+    requires { ⌜ (a < length (now phases)) × (b < length (now phases)) ⌝ }
+    ensures { λ r. ⌜ r ≡ commute n (rowsOf n (mem (now (x .entry)) (now (z .entry)) (now (phases .entry))) a) (rowsOf n (mem (now (x .entry)) (now (z .entry)) (now (phases .entry))) b) ⌝ }
+{
+    let s = row_span(a, n, phases.len());
+    let t = row_span(b, n, phases.len());
+    let la = s.0;
+    let le = s.1;
+    let ra = t.0;
+    let re = t.1;
+    products::commutes(&x[la..le], &z[la..le], &x[ra..re], &z[ra..re])
+}
+
+// Whether two rows commute.
+pub fn commutes_with(
+    n: usize,
+    x: &[u64],
+    z: &[u64],
+    phases: &[u8],
+    a: RowNumber,
+    b: RowNumber,
+) -> Truth
+    ensures { λ r. ⌜ r ≡ commutesWith n (mem (now (x .entry)) (now (z .entry)) (now (phases .entry))) (a .0) (b .0) ⌝ }
+{
+    let i = phases.len() <= a.0;
+    let j = phases.len() <= b.0;
+    let f = row_fault(n, x, z, phases, i | j);
+    if f != 0 {
+        return Truth::Refused(f);
+    }
+    Truth::Is(commute_rows(n, x, z, phases, a.0, b.0))
+}
+
+// Whether row r commutes with every row.
+fn central_row(n: usize, x: &[u64], z: &[u64], phases: &[u8], r: usize) -> bool
+    requires { ⌜ Ready n (mem (now x) (now z) (now phases)) ⌝ }
+    requires { ⌜ r < length (now phases) ⌝ }
+    ensures { λ b. ⌜ b ≡ central n (length (now (phases .entry))) (rowsOf n (mem (now (x .entry)) (now (z .entry)) (now (phases .entry)))) r ⌝ }
+{
+    let m = phases.len();
+    let mut k = 0;
+    while k < m {
+        if !commute_rows(n, x, z, phases, r, k) {
+            return false;
+        }
+        k += 1;
+    }
+    true
+}
+
+// Whether a row commutes with every row of its set.
+pub fn belongs_to_centralizer(
+    n: usize,
+    x: &[u64],
+    z: &[u64],
+    phases: &[u8],
+    row: RowNumber,
+) -> Truth
+    ensures { λ a. ⌜ a ≡ belongsToCentralizer n (mem (now (x .entry)) (now (z .entry)) (now (phases .entry))) (row .0) ⌝ }
+{
+    let f = row_fault(n, x, z, phases, phases.len() <= row.0);
+    if f != 0 {
+        return Truth::Refused(f);
+    }
+    Truth::Is(central_row(n, x, z, phases, row.0))
+}
+
+// The words of an m by m matrix of bits.
+fn matrix_size(m: usize) -> usize
+    requires { ⌜ m ≤ maxRows ⌝ }
+    ensures { λ s. ⌜ s ≡ m * wordsOf m ⌝ }
+{
+    m * encoding::words(m)
+}
+
+// The first number of the table that fits an m by m matrix that is lent in size words, or 0.
+fn square_fault(m: usize, size: usize) -> u8
+    ensures { λ r. ⌜ r ≡ fault (matrixTests m size) ⌝ }
+{
+    if encoding::MAX_ROWS < m {
+        return 2;
+    }
+    encoding::pick(size != matrix_size(m), 3, 0)
+}
+
+// The same of a set that is read and the matrix of its rows.
+fn matrix_fault(n: usize, x: &[u64], z: &[u64], phases: &[u8], size: usize) -> u8
+    ensures { λ r. ⌜ r ≡ matrixFault n (mem (now (x .entry)) (now (z .entry)) (now (phases .entry))) size ⌝ }
+    ensures none { λ r. ⌜ (r ≡ 0 → AskedMatrix n (mem (now (x .entry)) (now (z .entry)) (now (phases .entry))) size) ⌝ }
+{
+    encoding::smaller(
+        encoding::set_fault(n, x, z, phases),
+        square_fault(phases.len(), size),
+    )
+}
+
+// Every word becomes 0.
+fn clear(out: &mut [u64])
+    ensures { λ _. ⌜ Zeros (now (out .entry)) (now (out .exit)) ⌝ }
+{
+    let m = out.len();
+    let mut i = 0;
+    while i < m {
+        out[i] = 0;
+        i += 1;
+    }
+}
+
+// Bit j of row i of an m by m matrix is set.
+fn mark(m: usize, i: usize, j: usize, out: &mut [u64])
+    requires { ⌜ (i < m) × (j < m) × (m ≤ maxRows) × (length (now out) ≡ m * wordsOf m) ⌝ }
+    ensures { λ _. ⌜ Marked m i j (now (out .entry)) (now (out .exit)) ⌝ }
+{
+    let s = row_span(i, m, m);
+    let t = s.0 + j / 64;
+    out[t] = out[t] | (1u64 << (j % 64));
+}
+
+// The pair of rows i and j is looked at, and both bits are written.
+fn mark_pair(n: usize, x: &[u64], z: &[u64], phases: &[u8], i: usize, j: usize, out: &mut [u64])
+    requires { ⌜ Ready n (mem (now x) (now z) (now phases)) ⌝ }
+    requires { ⌜ (i < length (now phases)) × (j ≤ i) ⌝ }
+    requires { ⌜ Filled (commuting n (mem (now x) (now z) (now phases))) (length (now phases)) i j (now out) ⌝ }
+    ensures { λ _. ⌜ Filled (commuting n (mem (now (x .entry)) (now (z .entry)) (now (phases .entry)))) (length (now (phases .entry))) i (j + 1) (now (out .exit)) ⌝ }
+{
+    let m = phases.len();
+    if commute_rows(n, x, z, phases, i, j) {
+        mark(m, i, j, out);
+        mark(m, j, i, out);
+    }
+}
+
+// Row i is paired with the rows up to it.
+fn mark_line(n: usize, x: &[u64], z: &[u64], phases: &[u8], i: usize, out: &mut [u64])
+    requires { ⌜ Ready n (mem (now x) (now z) (now phases)) ⌝ }
+    requires { ⌜ i < length (now phases) ⌝ }
+    requires { ⌜ Filled (commuting n (mem (now x) (now z) (now phases))) (length (now phases)) i 0 (now out) ⌝ }
+    ensures { λ _. ⌜ Filled (commuting n (mem (now (x .entry)) (now (z .entry)) (now (phases .entry)))) (length (now (phases .entry))) (i + 1) 0 (now (out .exit)) ⌝ }
+{
+    let mut j = 0;
+    while j <= i {
+        mark_pair(n, x, z, phases, i, j, out);
+        j += 1;
+    }
+}
+
+// The matrix of a set's rows.
+fn fill_matrix(n: usize, x: &[u64], z: &[u64], phases: &[u8], out: &mut [u64])
+    requires { ⌜ Ready n (mem (now x) (now z) (now phases)) ⌝ }
+    requires { ⌜ length (now out) ≡ length (now phases) * wordsOf (length (now phases)) ⌝ }
+    ensures { λ _. ⌜ now (out .exit) ≡ laidMatrix (length (now (phases .entry))) (commuting n (mem (now (x .entry)) (now (z .entry)) (now (phases .entry)))) ⌝ }
+{
+    clear(out);
+    let m = phases.len();
+    let mut i = 0;
+    while i < m {
+        mark_line(n, x, z, phases, i, out);
+        i += 1;
+    }
+}
+
+// Bit j of row i is set exactly when rows i and j commute.
+pub fn compatibility_matrix(
+    n: usize,
+    x: &[u64],
+    z: &[u64],
+    phases: &[u8],
+    out: &mut [u64],
+) -> Answer
+    ensures { λ a. ⌜ CompatibilityMatrix n (mem (now (x .entry)) (now (z .entry)) (now (phases .entry))) (now (out .entry)) (now (out .exit)) a ⌝ }
+{
+    let f = matrix_fault(n, x, z, phases, out.len());
+    if f != 0 {
+        return Answer::Refused(f);
+    }
+    fill_matrix(n, x, z, phases, out);
+    Answer::Done
+}
+
+// The first number of the table that fits two sets that are read, or 0.
+fn both_fault(n: usize, lx: &[u64], lz: &[u64], lp: &[u8], rx: &[u64], rz: &[u64], rp: &[u8]) -> u8
+    ensures { λ r. ⌜ r ≡ fault (joined (setTests n (mem (now (lx .entry)) (now (lz .entry)) (now (lp .entry)))) (setTests n (mem (now (rx .entry)) (now (rz .entry)) (now (rp .entry))))) ⌝ }
+    ensures none { λ r. ⌜ (r ≡ 0 → BothReady n (mem (now (lx .entry)) (now (lz .entry)) (now (lp .entry))) (mem (now (rx .entry)) (now (rz .entry)) (now (rp .entry)))) ⌝ }
+{
+    encoding::smaller(
+        encoding::set_fault(n, lx, lz, lp),
+        encoding::set_fault(n, rx, rz, rp),
+    )
+}
+
+// The first number that fits a left set of m rows, a right one of k, and a third that is written, or 0.
+fn third_fault(n: usize, m: usize, k: usize, ox: &[u64], oz: &[u64], op: &[u8]) -> u8
+    ensures { λ r. ⌜ r ≡ fault (joined (differentRows m k) (outTests n m (mem (now (ox .entry)) (now (oz .entry)) (now (op .entry))))) ⌝ }
+    ensures none { λ r. ⌜ (r ≡ 0 → ThirdReady n m k (mem (now (ox .entry)) (now (oz .entry)) (now (op .entry)))) ⌝ }
+{
+    encoding::smaller(
+        encoding::pick(k != m, 3, 0),
+        encoding::out_fault(n, m, ox, oz, op),
+    )
+}
+
+// The parts of two rows, and the part to be written, are lent on.
+fn mul_part(
+    a: usize,
+    e: usize,
+    lx: &[u64],
+    lz: &[u64],
+    rx: &[u64],
+    rz: &[u64],
+    ox: &mut [u64],
+    oz: &mut [u64],
+) -> ComplexSign
+    requires { ⌜ (a ≤ e) × (e ≤ length (now lx)) ⌝ }
+    requires { ⌜ SameLength (length (now lx)) (now lx) (now lz) (now rx) (now rz) (now ox) (now oz) ⌝ }
+    ensures { λ r. ⌜ ProductAt a e (now (lx .entry)) (now (lz .entry)) (now (rx .entry)) (now (rz .entry)) (now (ox .entry)) (now (oz .entry)) (now (ox .exit)) (now (oz .exit)) (r .0) ⌝ }
+{
+    products::mul_op_op(
+        &lx[a..e],
+        &lz[a..e],
+        &rx[a..e],
+        &rz[a..e],
+        &mut ox[a..e],
+        &mut oz[a..e],
+    )
+}
+
+// Row by row, left times right is written into the third set, and the exponent into its phase byte.
+fn mul_rows(
+    n: usize,
+    lx: &[u64],
+    lz: &[u64],
+    lp: &[u8],
+    rx: &[u64],
+    rz: &[u64],
+    rp: &[u8],
+    ox: &mut [u64],
+    oz: &mut [u64],
+    op: &mut [u8],
+)
+    requires { ⌜ BothReady n (mem (now lx) (now lz) (now lp)) (mem (now rx) (now rz) (now rp)) ⌝ }
+    requires { ⌜ ThirdReady n (length (now lp)) (length (now rp)) (mem (now ox) (now oz) (now op)) ⌝ }
+    ensures { λ _. ⌜ mem (now (ox .exit)) (now (oz .exit)) (now (op .exit)) ≡ lay n (length (now (lp .entry))) (pairs n (mem (now (lx .entry)) (now (lz .entry)) (now (lp .entry))) (mem (now (rx .entry)) (now (rz .entry)) (now (rp .entry)))) ⌝ }
+{
+    let m = op.len();
+    let mut r = 0;
+    while r < m {
+        let s = row_span(r, n, m);
+        let a = s.0;
+        let e = s.1;
+        let p = mul_part(a, e, lx, lz, rx, rz, ox, oz);
+        op[r] = p.0;
+        r += 1;
+    }
+}
+
+// Each row of the left set times the same row of the right goes into a third set; its phase byte is the exponent of the product.
+pub fn cmpnts_mul_pairwise(
+    n: usize,
+    lx: &[u64],
+    lz: &[u64],
+    lp: &[u8],
+    rx: &[u64],
+    rz: &[u64],
+    rp: &[u8],
+    ox: &mut [u64],
+    oz: &mut [u64],
+    op: &mut [u8],
+) -> Answer
+    ensures { λ a. ⌜ MulPairwise n (mem (now (lx .entry)) (now (lz .entry)) (now (lp .entry))) (mem (now (rx .entry)) (now (rz .entry)) (now (rp .entry))) (mem (now (ox .entry)) (now (oz .entry)) (now (op .entry))) (mem (now (ox .exit)) (now (oz .exit)) (now (op .exit))) a ⌝ }
+{
+    let f = encoding::smaller(
+        both_fault(n, lx, lz, lp, rx, rz, rp),
+        third_fault(n, lp.len(), rp.len(), ox, oz, op),
+    );
+    if f != 0 {
+        return Answer::Refused(f);
+    }
+    mul_rows(n, lx, lz, lp, rx, rz, rp, ox, oz, op);
+    Answer::Done
+}
+
+// Row r acts on a basis state.
+fn act_on(n: usize, x: &[u64], z: &[u64], phases: &[u8], r: usize, state: &mut [u64]) -> ComplexSign
+    requires { ⌜ Ready n (mem (now x) (now z) (now phases)) ⌝ }
+    requires { ⌜ (r < length (now phases)) × (fault (stateTests n (now state)) ≡ 0) ⌝ }
+    ensures { λ e. ⌜ StateActed n (rowsOf n (mem (now (x .entry)) (now (z .entry)) (now (phases .entry))) r) (now (state .entry)) (now (state .exit)) (e .0) ⌝ }
+{
+    let s = row_span(r, n, phases.len());
+    let a = s.0;
+    let e = s.1;
+    products::imul_op_state(&x[a..e], &z[a..e], state)
+}
+
+// A row acts on a lent basis state, which is changed in place; the exponent is returned, without the row's own.
+pub fn imul_state(
+    n: usize,
+    x: &[u64],
+    z: &[u64],
+    phases: &[u8],
+    row: RowNumber,
+    state: &mut [u64],
+) -> Phase
+    ensures { λ a. ⌜ ImulState n (mem (now (x .entry)) (now (z .entry)) (now (phases .entry))) (row .0) (now (state .entry)) (now (state .exit)) a ⌝ }
+{
+    let f = encoding::smaller(
+        row_fault(n, x, z, phases, phases.len() <= row.0),
+        encoding::state_fault(n, state),
+    );
+    if f != 0 {
+        return Phase::Refused(f);
+    }
+    Phase::Exponent(act_on(n, x, z, phases, row.0, state))
+}
