@@ -1,0 +1,134 @@
+-- The sum over a block is the sum from the block's first place up to, not including, its last, whatever is added; so are its partial sums; whether there is
+-- a block; and the turn by 3. Assumes nothing.
+use mathlib.Core.Path.{_≡_, refl, sym, ap, ap₂, _∙_}
+use mathlib.Core.Logic.{_↔_}
+use mathlib.Core.Bool.{Bool, true, false, _||_, or-true, or-assoc, or-self}
+use mathlib.Core.List.{List, [], _∷_}
+use Prim.Native.Nat.{ℕ, zero, suc, _+_, _-_, _≤_, _<_, suc-le-suc}
+use native.Mathlib.Decide.{decLe}
+use native.Mathlib.Nat.{le-refl, lt-of-lt-of-le, le-of-suc-le-suc, not-suc-le-zero, zero-add, suc-add, zero-lt-suc, le-trans, lt-of-not-le}
+use native.Mathlib.Numerals.{add-one}
+use native.Mathlib.Omega.{arith}
+use borrow.Author.Tests.{eq-eqb, ne-eqb, eqb-false, le-leb, lt-leb}
+use lib.Dec.{eqb, leb}
+use lib.ListN.{length, getD}
+use Rattle.encoding.specs.Refusals.{some, someBelow}
+use Rattle.encoding.proofs.Scan.{some-none}
+use Rattle.mat_elem.specs.Terms.{inBlock, hasBlock, BlockOf}
+use Rattle.mat_elem.specs.Sums.{turned, stepIf, sumOver}
+
+-- ---- some number below m passes a test: the same test, and a test that goes on as it was
+pub each-of : (f g : ℕ → Bool) (m : ℕ) → ((k : ℕ) → k < m → f k ≡ g k) → someBelow m f ≡ someBelow m g
+unfolding someBelow
+each-of f g zero h = refl
+each-of f g (suc m) h = ap₂ _||_ (each-of f g m (λ k l. h k (omega arith))) (h m (omega arith))
+
+past : (f : ℕ → Bool) (a d : ℕ) → ((k : ℕ) → a ≤ k → k < suc (d + a) → f k ≡ f a) → someBelow (suc (d + a)) f ≡ someBelow (suc a) f
+unfolding someBelow
+past f a zero h = rw zero-add
+past f a (suc d) h =
+    rw suc-add
+    (ap₂ _||_ (past f a d (λ k l u. h k l (omega (arith, suc-add d a)))) (h (suc (d + a)) (omega arith) (omega (arith, suc-add d a)))
+    ∙ or-assoc (someBelow a f) (f a) (f a) ∙ ap (λ (b : Bool). someBelow a f || b) (or-self (f a)))
+
+some-past : (f : ℕ → Bool) (a m : ℕ) → a ≤ m → ((k : ℕ) → a ≤ k → k < suc m → f k ≡ f a) → someBelow (suc m) f ≡ someBelow (suc a) f
+some-past f a m l h =
+    let e : (m - a) + a ≡ m = omega arith in
+    ap (λ (k : ℕ). someBelow (suc k) f) (sym e) ∙ past f a (m - a) (λ k i u. h k i (omega arith))
+
+module _ {A : Type 0} (plus : A → A → A) (none : A) (term : ℕ → A) where
+  -- d places more, none of them picked
+  skip : (at : ℕ → Bool) (i d : ℕ) → ((k : ℕ) → i ≤ k → k < d + i → at k ≡ false) → sumOver at plus none term (d + i) ≡ sumOver at plus none term i
+  unfolding sumOver
+  skip at i zero h = rw zero-add
+  skip at i (suc d) h = rw (suc-add d i, h (d + i) (omega arith) (omega arith)) (skip at i d (λ k l u. h k l (omega arith)))
+
+  sum-same : (at : ℕ → Bool) (i n : ℕ) → i ≤ n → ((k : ℕ) → i ≤ k → k < n → at k ≡ false) → sumOver at plus none term n ≡ sumOver at plus none term i
+  sum-same at i n l h =
+      let e : (n - i) + i ≡ n = omega arith in
+      ap (λ (k : ℕ). sumOver at plus none term k) (sym e) ∙ skip at i (n - i) (λ k x y. h k x (omega arith))
+
+  -- the same places picked
+  sum-pick : (at by : ℕ → Bool) (n : ℕ) → ((k : ℕ) → k < n → at k ≡ by k) → sumOver at plus none term n ≡ sumOver by plus none term n
+  unfolding sumOver
+  sum-pick at by zero h = refl
+  sum-pick at by (suc n) h =
+      ap₂ (λ (b : Bool) (s : A). stepIf b (λ (r : A). plus r (term n)) s) (h n (omega arith)) (sum-pick at by n (λ k l. h k (omega arith)))
+
+  -- ---- from `first` on: nothing yet, and one more
+  pub range-none : (first n : ℕ) → n ≤ first → none ≡ sumOver (λ i. leb first i) plus none term n
+  unfolding sumOver
+  range-none first n l = sym (sum-same (λ i. leb first i) 0 n (omega arith) (λ k _ h. lt-leb first k (lt-of-lt-of-le h l)))
+
+  pub range-next : (first i : ℕ) → first ≤ i → sumOver (λ i. leb first i) plus none term (i + 1) ≡ plus (sumOver (λ i. leb first i) plus none term i) (term i)
+  unfolding sumOver
+  range-next first i h = rw (add-one, le-leb first i h)
+
+  -- ---- the block
+  module _ (xs : List ℕ) (t first last : ℕ) (b : BlockOf xs t first last) where
+    block-upto : (n : ℕ) → n ≤ last → sumOver (inBlock xs t) plus none term n ≡ sumOver (λ i. leb first i) plus none term n
+    block-upto n l = sum-pick (inBlock xs t) (λ i. leb first i) n (λ k h. go k (lt-of-lt-of-le h l) (decLe first k))
+      where
+        go : (k : ℕ) → k < last → Dec (first ≤ k) → inBlock xs t k ≡ leb first k
+        go k h (yes p) = eq-eqb (getD xs k 0) t (b .inside k p h) ∙ sym (le-leb first k p)
+        go k h (no p) =
+            let u : getD xs k 0 < t = b .before k (lt-of-not-le p) in
+            ne-eqb (getD xs k 0) t (λ e. omega arith) ∙ sym (lt-leb first k (lt-of-not-le p))
+
+    after : (n : ℕ) → last ≤ n → n ≤ length xs → sumOver (inBlock xs t) plus none term n ≡ sumOver (inBlock xs t) plus none term last
+    after n l h = sum-same (inBlock xs t) last n l (λ k i u. ne-eqb (getD xs k 0) t (ne-gt _ _ (b .after k i (lt-of-lt-of-le u h))))
+      where
+        ne-gt : (m n : ℕ) → n < m → m ≡ n → ⊥
+        ne-gt m n h e = omega arith
+
+    pub block-range : sumOver (inBlock xs t) plus none term (length xs) ≡ sumOver (λ i. leb first i) plus none term last
+    block-range = after (length xs) (b .within) (le-refl (length xs)) ∙ block-upto last (le-refl last)
+
+    -- a test of the partial sums
+    pub block-some : (p : A → Bool)
+        → someBelow (suc (length xs)) (λ n. p (sumOver (inBlock xs t) plus none term n)) ≡ someBelow (suc last) (λ n. p (sumOver (λ i. leb first i) plus none term n))
+    block-some p =
+        some-past (λ n. p (sumOver (inBlock xs t) plus none term n)) last (length xs) (b .within) (λ k i l. ap p (after k i (le-of-suc-le-suc l)))
+        ∙ each-of (λ n. p (sumOver (inBlock xs t) plus none term n)) (λ n. p (sumOver (λ i. leb first i) plus none term n)) (suc last) (λ k l. ap p (block-upto k (le-of-suc-le-suc l)))
+
+-- ---- whether there is a block
+
+has : (xs : List ℕ) (t k : ℕ) → k < length xs → getD xs k 0 ≡ t → hasBlock xs t ≡ true
+unfolding some
+has [] t k h e = absurd (not-suc-le-zero h)
+has (x ∷ xs) t zero h e = rw (eq-eqb x t e)
+has (x ∷ xs) t (suc k) h e = rw (has xs t k (le-of-suc-le-suc h) e) (or-true (eqb x t))
+
+has-not : (xs : List ℕ) (t : ℕ) → ((k : ℕ) → k < length xs → getD xs k 0 ≡ t → ⊥) → hasBlock xs t ≡ false
+unfolding some
+has-not [] t h = refl
+has-not (x ∷ xs) t h = rw (ne-eqb x t (h 0 (zero-lt-suc _))) (has-not xs t (λ k l. h (suc k) (suc-le-suc l)))
+
+-- there is none exactly when no term has that X
+pub no-term : (xs : List ℕ) (t : ℕ) → (hasBlock xs t ≡ false) ↔ ((k : ℕ) → k < length xs → getD xs k 0 ≡ t → ⊥)
+no-term xs t = (λ e k h. eqb-false (getD xs k 0) t (some-none (λ w. eqb w t) 0 xs e k h), has-not xs t)
+
+-- where there is none the sum is what it starts from
+pub sum-empty : {A : Type 0} (plus : A → A → A) (none : A) (term : ℕ → A) (xs : List ℕ) (t : ℕ) → hasBlock xs t ≡ false
+    → sumOver (inBlock xs t) plus none term (length xs) ≡ none
+unfolding sumOver
+sum-empty plus none term xs t e =
+    sum-same plus none term (inBlock xs t) 0 (length xs) (omega arith) (λ k _ h. some-none (λ w. eqb w t) 0 xs e k h)
+
+module _ (xs : List ℕ) (t first last : ℕ) (b : BlockOf xs t first last) where
+  pub has-block : first < last → hasBlock xs t ≡ true
+  has-block h = has xs t first (lt-of-lt-of-le h (b .within)) (b .inside first (le-refl first) h)
+
+  pub no-block : last ≤ first → hasBlock xs t ≡ false
+  no-block h = has-not xs t (λ k l e. go k l e (decLe first k))
+    where
+      go : (k : ℕ) → k < length xs → getD xs k 0 ≡ t → Dec (first ≤ k) → ⊥
+      go k l e (yes p) = let u : t < getD xs k 0 = b .after k (le-trans h p) l in omega arith
+      go k l e (no p) = let u : getD xs k 0 < t = b .before k (lt-of-not-le p) in omega arith
+
+-- ---- past 2 the last of the four turns holds
+pub turned-rest : {A : Type 0} (minus : A → A) (a b : A) (k : ℕ) → (k ≡ 0 → ⊥) → (k ≡ 1 → ⊥) → (k ≡ 2 → ⊥) → turned minus k a b ≡ (b, minus a)
+turned-rest minus a b zero h i j = absurd (h refl)
+turned-rest minus a b (suc zero) h i j = absurd (i refl)
+turned-rest minus a b (suc (suc zero)) h i j = absurd (j refl)
+turned-rest minus a b (suc (suc (suc k))) h i j = refl

@@ -1,0 +1,69 @@
+use borrow.Author.Needs.{needs}
+use native.Mathlib.Omega.{arith}
+use mathlib.Core.Path.{ap₂}
+use Prim.Native.Nat.{_-_}
+use lib.ListN.{length}
+use Rattle.mat_elem.specs.declared.Found.the-variants.{Block}
+use Rattle.mat_elem.proofs.Places.{Run, run-none, run-more, run-stop, run-end}
+use Rattle.mat_elem.proofs.block.Statement.{statement}
+use Rattle.mat_elem.proofs.block.Tie as tie
+
+abbrev Inv-loop : tie.InvT-loop
+Inv-loop x t first last₀ last = Run x t last
+
+abbrev μ-loop : tie.MeasureT-loop
+μ-loop x t first last₀ last = length x - last
+
+lower-requires : tie.Need-lower-requires Inv-loop μ-loop
+lower-requires c κs = c .before .pre
+
+loop-holds : tie.Need-loop-holds Inv-loop μ-loop
+loop-holds c =
+    let s = c .before .before in
+    rw (c .lower .ensures) (run-none (s .args .x .now) (s .args .t) (s .pre))
+
+mul-if1 : tie.Need-mul-if1 Inv-loop μ-loop
+mul-if1 c = search needs
+
+shared-slice-read-if1 : tie.Need-shared-slice-read-if1 Inv-loop μ-loop
+shared-slice-read-if1 c = search needs
+
+returns : tie.Need-returns Inv-loop μ-loop
+returns c =
+    let w = c .before .before .before in
+    let s = w .before .before .before in
+    ap₂ Block (w .before .lower .ensures) (run-stop (s .args .x .now) (s .args .t) (s .pre) (w .loop .inv) (c .before .before .loop-test .taken) (c .if1 .taken))
+
+add-last : tie.Need-add-last Inv-loop μ-loop
+add-last c = search needs
+
+loop-less : tie.Need-loop-less Inv-loop μ-loop
+loop-less c = search needs
+
+loop-again : tie.Need-loop-again Inv-loop μ-loop
+loop-again c =
+    let w = c .before .before .before in
+    let s = w .before .before .before in
+    run-more (s .args .x .now) (s .args .t) (s .pre) (w .loop .inv) (c .before .before .loop-test .taken) (c .if1 .left)
+
+returns-2 : tie.Need-returns-2 Inv-loop μ-loop
+returns-2 c =
+    let w = c .before in
+    let s = w .before .before .before in
+    ap₂ Block (w .before .lower .ensures) (run-end (s .args .x .now) (s .args .t) (s .pre) (w .loop .inv) (omega arith))
+
+pub block-spec : {M : Type 1} → statement M
+block-spec =
+    tie.close
+    (tie.spec
+    Inv-loop
+    μ-loop
+    lower-requires
+    loop-holds
+    mul-if1
+    shared-slice-read-if1
+    returns
+    add-last
+    loop-less
+    loop-again
+    returns-2)

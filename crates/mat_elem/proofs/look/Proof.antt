@@ -1,0 +1,61 @@
+use borrow.Author.Needs.{needs}
+use native.Mathlib.Omega.{arith}
+use Prim.Native.Nat.{_-_}
+use lib.ListN.{length}
+use Rattle.mat_elem.proofs.Pass.{Looking, look-none, look-more, look-all}
+use Rattle.mat_elem.proofs.look.Statement.{statement}
+use Rattle.mat_elem.proofs.look.Tie as tie
+
+abbrev Inv-loop : tie.InvT-loop
+Inv-loop x z top above₀ falls₀ prev₀ i₀ above falls prev i = Looking x z top above falls prev i
+
+abbrev μ-loop : tie.MeasureT-loop
+μ-loop x z top above₀ falls₀ prev₀ i₀ above falls prev i = length x - i
+
+loop-holds : tie.Need-loop-holds Inv-loop μ-loop
+loop-holds c = look-none (c .args .x .now) (c .args .z .now) (c .args .top) (c .pre)
+
+mul-w : tie.Need-mul-w Inv-loop μ-loop
+mul-w c = search needs
+
+shared-slice-read-w : tie.Need-shared-slice-read-w Inv-loop μ-loop
+shared-slice-read-w c = search needs
+
+mul-v : tie.Need-mul-v Inv-loop μ-loop
+mul-v c = search needs
+
+shared-slice-read-v : tie.Need-shared-slice-read-v Inv-loop μ-loop
+shared-slice-read-v c = search needs
+
+add-i : tie.Need-add-i Inv-loop μ-loop
+add-i c = search needs
+
+loop-less : tie.Need-loop-less Inv-loop μ-loop
+loop-less c = search needs
+
+loop-again : tie.Need-loop-again Inv-loop μ-loop
+loop-again c =
+    let w = c .before .before .before in
+    let s = w .before in
+    look-more (s .args .x .now) (s .args .z .now) (s .args .top) (s .pre) (w .loop .inv) (omega arith)
+
+returns : tie.Need-returns Inv-loop μ-loop
+returns c =
+    let w = c .before in
+    look-all (w .before .args .x .now) (w .before .args .z .now) (w .before .args .top) (w .before .pre) (w .loop .inv) (omega arith)
+
+pub look-spec : {M : Type 1} → statement M
+look-spec =
+    tie.close
+    (tie.spec
+    Inv-loop
+    μ-loop
+    loop-holds
+    mul-w
+    shared-slice-read-w
+    mul-v
+    shared-slice-read-v
+    add-i
+    loop-less
+    loop-again
+    returns)

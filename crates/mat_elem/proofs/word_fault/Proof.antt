@@ -1,0 +1,37 @@
+use borrow.Author.Needs.{needs}
+use Rattle.encoding.specs.Refusals.{faultFrom}
+use Rattle.mat_elem.proofs.Bits.{bits-seen}
+use Rattle.mat_elem.proofs.word_fault.Statement.{statement}
+use Rattle.mat_elem.proofs.word_fault.Tie as tie
+
+top-word-requires : tie.Need-top-word-requires
+top-word-requires c κs = search needs
+
+look-requires : tie.Need-look-requires
+look-requires c κs = search needs
+
+returns : tie.Need-returns
+unfolding faultFrom
+returns c =
+    let l = c .before .before in
+    let s = l .before .before .before .before in
+    rw (bits-seen (s .args .n) _ (s .pre .0) (l .before .top-word .ensures) (s .args .bra) (s .args .ket) (l .before .before .before .shared-slice-known .given) (l .before .before .shared-slice-known2 .given) (s .fits .bra .fits) (s .fits .ket .fits) (l .look .ensures), c .if1 .taken)
+
+returns-2 : tie.Need-returns-2
+unfolding faultFrom
+returns-2 c =
+    let e = c .before in
+    let l = e .before .before in
+    let s = l .before .before .before .before in
+    rw (bits-seen (s .args .n) _ (s .pre .0) (l .before .top-word .ensures) (s .args .bra) (s .args .ket) (l .before .before .before .shared-slice-known .given) (l .before .before .shared-slice-known2 .given) (s .fits .bra .fits) (s .fits .ket .fits) (l .look .ensures), e .if1 .left, ← l .look .ensures .is-fell, c .if2 .taken)
+
+returns-3 : tie.Need-returns-3
+unfolding faultFrom
+returns-3 c =
+    let e = c .before in
+    let l = e .before .before in
+    let s = l .before .before .before .before in
+    rw (bits-seen (s .args .n) _ (s .pre .0) (l .before .top-word .ensures) (s .args .bra) (s .args .ket) (l .before .before .before .shared-slice-known .given) (l .before .before .shared-slice-known2 .given) (s .fits .bra .fits) (s .fits .ket .fits) (l .look .ensures), e .if1 .left, ← l .look .ensures .is-fell, c .if2 .left)
+
+pub word-fault-spec : {M : Type 1} → statement M
+word-fault-spec = tie.close (tie.spec top-word-requires look-requires returns returns-2 returns-3)

@@ -1,0 +1,158 @@
+// What the two editions of matrix elements share: the tests of the terms, the block's place among them, and the exponent of a term's action on the ket.
+ghost use mathlib.Core.Path.{_≡_};
+ghost use mathlib.Core.Bool.{Bool, false};
+ghost use mathlib.Core.List.{List, [], _∷_};
+ghost use Prim.Native.Nat.{ℕ, suc, _^_, _≤_};
+ghost use lib.ListN.{length};
+ghost use Rattle.encoding.specs.Refusals.{fault, faultFrom};
+ghost use Rattle.mat_elem.specs.Terms.{maxQubits, badCount, tooMany, badLengths, badBits, falls, blockFrom, foundOr, blockTo, foundOf};
+ghost use Rattle.mat_elem.specs.Sums.{exponentOf};
+ghost use Rattle.mat_elem.specs.Look.{Looked};
+use pauli::ComplexSign;
+
+// n from 1 to 64, and 0 to 65,536 terms.
+pub const MIN_QUBITS: usize = 1;
+
+pub const MAX_QUBITS: usize = 64;
+
+pub const MAX_TERMS: usize = 65_536;
+
+// Where the block of a word lies: from its first place up to, not including, its last. Empty where no term has that X.
+pub enum Found {
+    Block(usize, usize),
+    Refused(u8),
+}
+
+// The lines 1 to 3 of the table, which need no look at the terms.
+fn shape_fault(n: usize, m: usize, z: usize, reals: usize, imags: usize) -> u8
+    ensures { λ r. ⌜ r ≡ fault (badCount n ∷ tooMany m ∷ badLengths m z reals imags ∷ []) ⌝ }
+{
+    if (n < MIN_QUBITS) | (MAX_QUBITS < n) {
+        return 1;
+    }
+    if MAX_TERMS < m {
+        return 2;
+    }
+    if (z != m) | (reals != m) | (imags != m) {
+        return 3;
+    }
+    0
+}
+
+// The largest word of n bits.
+fn top_word(n: usize) -> u64
+    requires { ⌜ n ≤ maxQubits ⌝ }
+    ensures { λ r. ⌜ suc r ≡ 2 ^ n ⌝ }
+{
+    if n < MAX_QUBITS {
+        (1u64 << n) - 1
+    } else {
+        0xffff_ffff_ffff_ffff
+    }
+}
+
+// What one pass over the terms finds: a word above the largest, and a fall of X.
+struct Seen {
+    above: bool,
+    falls: bool,
+}
+
+fn look(x: &[u64], z: &[u64], top: u64) -> Seen
+    requires { ⌜ length (now z) ≡ length (now x) ⌝ }
+    ensures { λ r. ⌜ Looked (now (x .entry)) (now (z .entry)) top (r .above) (r .falls) ⌝ }
+{
+    let mut above = false;
+    let mut falls = false;
+    let mut prev: u64 = 0;
+    let mut i = 0;
+    while i < x.len() {
+        let w = x[i];
+        let v = z[i];
+        above = above | (top < w) | (top < v);
+        falls = falls | (w < prev);
+        prev = w;
+        i += 1;
+    }
+    Seen { above, falls }
+}
+
+// The lines 4 to 10.
+fn word_fault(n: usize, x: &[u64], z: &[u64], bra: u64, ket: u64) -> u8
+    requires { ⌜ n ≤ maxQubits ⌝ }
+    requires { ⌜ length (now z) ≡ length (now x) ⌝ }
+    ensures { λ r. ⌜ r ≡ faultFrom 4 (badBits n (now (x .entry)) (now (z .entry)) bra ket ∷ false ∷ false ∷ false ∷ false ∷ false ∷ falls (now (x .entry)) ∷ []) ⌝ }
+{
+    let top = top_word(n);
+    let seen = look(x, z, top);
+    if seen.above | (top < bra) | (top < ket) {
+        return 4;
+    }
+    if seen.falls {
+        return 10;
+    }
+    0
+}
+
+// The first place whose word is t or more.
+fn lower(x: &[u64], t: u64) -> usize
+    requires { ⌜ falls (now x) ≡ false ⌝ }
+    ensures { λ r. ⌜ r ≡ blockFrom (now (x .entry)) t ⌝ }
+{
+    let mut lo = 0;
+    let mut hi = x.len();
+    while lo < hi {
+        let mid = lo + ((hi - lo) >> 1);
+        if x[mid] < t {
+            lo = mid + 1;
+        } else {
+            hi = mid;
+        }
+    }
+    lo
+}
+
+// The run of words that are t.
+fn block(x: &[u64], t: u64) -> Found
+    requires { ⌜ falls (now x) ≡ false ⌝ }
+    ensures { λ r. ⌜ r ≡ foundOr 0 (blockFrom (now (x .entry)) t) (blockTo (now (x .entry)) t) ⌝ }
+{
+    let first = lower(x, t);
+    let mut last = first;
+    while last < x.len() {
+        if x[last] != t {
+            return Found::Block(first, last);
+        }
+        last += 1;
+    }
+    Found::Block(first, last)
+}
+
+// The first line of the table that fits the terms, or else the block of bra XOR ket. Of the coefficients only the lengths of their slices are asked.
+pub fn find_block(
+    n: usize,
+    x: &[u64],
+    z: &[u64],
+    reals: usize,
+    imags: usize,
+    bra: u64,
+    ket: u64,
+) -> Found
+    ensures { λ r. ⌜ r ≡ foundOf n (now (x .entry)) (now (z .entry)) reals imags bra ket ⌝ }
+{
+    let shape = shape_fault(n, x.len(), z.len(), reals, imags);
+    if shape != 0 {
+        return Found::Refused(shape);
+    }
+    let words = word_fault(n, x, z, bra, ket);
+    if words != 0 {
+        return Found::Refused(words);
+    }
+    block(x, bra ^ ket)
+}
+
+// The exponent of i of a term's action on the ket.
+pub fn exponent(x: u64, z: u64, ket: u64) -> ComplexSign
+    ensures { λ r. ⌜ r .0 ≡ exponentOf x z ket ⌝ }
+{
+    ComplexSign(products::mul_op_state_phase_u64(x, z, ket) as u8)
+}

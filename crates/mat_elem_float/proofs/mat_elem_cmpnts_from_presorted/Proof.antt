@@ -1,0 +1,80 @@
+use mathlib.Core.Path.{sym, _∙_}
+use borrow.Author.Needs.{needs}
+use lib.ListN.{length}
+use Rattle.mat_elem.proofs.Faults.{found-part}
+use Rattle.mat_elem_float.proofs.Block.{parts, answer-refused, answer-wild, answer-none, answer-sum}
+use Rattle.mat_elem_float.proofs.Meaning.{mat-elem}
+use Rattle.mat_elem_float.proofs.mat_elem_cmpnts_from_presorted.Statement.{statement}
+use Rattle.mat_elem_float.proofs.mat_elem_cmpnts_from_presorted.Tie as tie
+
+find-block-requires : tie.Need-find-block-requires
+find-block-requires c κs = search needs
+
+enum-known-found : tie.Need-enum-known-found
+enum-known-found c = search needs
+
+enum-known-found-2 : tie.Need-enum-known-found-2
+enum-known-found-2 c = search needs
+
+some-wild-requires : tie.Need-some-wild-requires
+some-wild-requires c κs =
+    let f = c .before in
+    let k = f .before .before in
+    let a = k .before .before .before .before .before .args in
+    parts (a .n) (a .x .now) (a .z .now) (a .re .now) (a .im .now) (a .bra) (a .ket) _ _ (sym (k .find-block .ensures) ∙ f .found2 .given .1)
+
+returns : tie.Need-returns
+returns c =
+    let w = c .before in
+    let f = w .before .before in
+    let k = f .before .before in
+    let a = k .before .before .before .before .before .args in
+    mat-elem (a .n) (a .x .now) (a .z .now) (a .re .now) (a .im .now) (a .bra) (a .ket) (k .before .before .shared-slice-known3 .given) (k .before .shared-slice-known4 .given)
+    (answer-wild (a .n) (a .x .now) (a .z .now) (a .re .now) (a .im .now) (a .bra) (a .ket) _ _ (sym (k .find-block .ensures) ∙ f .found2 .given .1) (sym (w .some-wild .ensures) ∙ c .if1 .taken))
+
+returns-2 : tie.Need-returns-2
+returns-2 c =
+    let w = c .before .before in
+    let f = w .before .before in
+    let k = f .before .before in
+    let a = k .before .before .before .before .before .args in
+    mat-elem (a .n) (a .x .now) (a .z .now) (a .re .now) (a .im .now) (a .bra) (a .ket) (k .before .before .shared-slice-known3 .given) (k .before .shared-slice-known4 .given)
+    (answer-none (a .n) (a .x .now) (a .z .now) (a .re .now) (a .im .now) (a .bra) (a .ket) _ _ (sym (k .find-block .ensures) ∙ f .found2 .given .1) (sym (w .some-wild .ensures) ∙ c .before .if1 .left) (c .if2 .taken))
+
+block-sum-requires : tie.Need-block-sum-requires
+block-sum-requires c κs =
+    let f = c .before .before .before .before in
+    let k = f .before .before in
+    let a = k .before .before .before .before .before .args in
+    found-part (a .n) (a .x .now) (a .z .now) (length (a .re .now)) (length (a .im .now)) (a .bra) (a .ket) (sym (k .find-block .ensures) ∙ f .found2 .given .1)
+
+returns-3 : tie.Need-returns-3
+returns-3 c =
+    let f = c .before in
+    let k = f .before .before in
+    let a = k .before .before .before .before .before .args in
+    mat-elem (a .n) (a .x .now) (a .z .now) (a .re .now) (a .im .now) (a .bra) (a .ket) (k .before .before .shared-slice-known3 .given) (k .before .shared-slice-known4 .given)
+    (answer-refused (a .n) (a .x .now) (a .z .now) (a .re .now) (a .im .now) (a .bra) (a .ket) _ (sym (k .find-block .ensures) ∙ f .found .given .1))
+
+returns-4 : tie.Need-returns-4
+returns-4 c =
+    let w = c .before .before .before in
+    let f = w .before .before in
+    let k = f .before .before in
+    let a = k .before .before .before .before .before .args in
+    mat-elem (a .n) (a .x .now) (a .z .now) (a .re .now) (a .im .now) (a .bra) (a .ket) (k .before .before .shared-slice-known3 .given) (k .before .shared-slice-known4 .given)
+    (answer-sum (a .n) (a .x .now) (a .z .now) (a .re .now) (a .im .now) (a .bra) (a .ket) _ _ (sym (k .find-block .ensures) ∙ f .found2 .given .1) (sym (w .some-wild .ensures) ∙ c .before .before .if1 .left) (c .before .if2 .left) (c .block-sum .ensures))
+
+pub mat-elem-cmpnts-from-presorted-spec : {M : Type 1} → statement M
+mat-elem-cmpnts-from-presorted-spec =
+    tie.close
+    (tie.spec
+    find-block-requires
+    enum-known-found
+    enum-known-found-2
+    some-wild-requires
+    returns
+    returns-2
+    block-sum-requires
+    returns-3
+    returns-4)

@@ -1,0 +1,79 @@
+use borrow.Author.Needs.{needs}
+use native.Mathlib.Omega.{arith}
+use mathlib.Core.Path.{sym, _∙_}
+use Prim.Native.Nat.{_-_}
+use lib.ListN.{length}
+use borrow.Author.Tests.{not-true, not-false}
+use Rattle.mat_elem_float.proofs.Scan.{Wilds, wild-none, wild-hit, wild-more, wild-all}
+use Rattle.mat_elem_float.proofs.some_wild.Statement.{statement}
+use Rattle.mat_elem_float.proofs.some_wild.Tie as tie
+
+abbrev Inv-loop : tie.InvT-loop
+Inv-loop re im i₀ i = Wilds re im i
+
+abbrev μ-loop : tie.MeasureT-loop
+μ-loop re im i₀ i = length re - i
+
+loop-holds : tie.Need-loop-holds Inv-loop μ-loop
+loop-holds c = let s = c .before .before in wild-none (s .args .re .now) (s .args .im .now) (s .pre)
+
+mul-t5 : tie.Need-mul-t5 Inv-loop μ-loop
+mul-t5 c = search needs
+
+shared-slice-read-t8 : tie.Need-shared-slice-read-t8 Inv-loop μ-loop
+shared-slice-read-t8 c = search needs
+
+mul-t9 : tie.Need-mul-t9 Inv-loop μ-loop
+mul-t9 c = search needs
+
+shared-slice-read-t11 : tie.Need-shared-slice-read-t11 Inv-loop μ-loop
+shared-slice-read-t11 c = search needs
+
+both-finite-requires : tie.Need-both-finite-requires Inv-loop μ-loop
+both-finite-requires c κs = search needs
+
+returns : tie.Need-returns Inv-loop μ-loop
+returns c =
+    let b = c .before in
+    let l = b .before .before .before in
+    let w = l .before in
+    let s = w .before .before .before in
+    wild-hit (s .args .re .now) (s .args .im .now) (s .pre) (w .loop .inv) (l .loop-test .taken) (sym (b .both-finite .ensures) ∙ not-true _ (c .if1 .taken))
+
+add-i : tie.Need-add-i Inv-loop μ-loop
+add-i c = search needs
+
+loop-less : tie.Need-loop-less Inv-loop μ-loop
+loop-less c = search needs
+
+loop-again : tie.Need-loop-again Inv-loop μ-loop
+loop-again c =
+    let b = c .before in
+    let l = b .before .before .before in
+    let w = l .before in
+    let s = w .before .before .before in
+    wild-more (s .args .re .now) (s .args .im .now) (s .pre) (w .loop .inv) (l .loop-test .taken) (sym (b .both-finite .ensures) ∙ not-false _ (c .if1 .left))
+
+returns-2 : tie.Need-returns-2 Inv-loop μ-loop
+returns-2 c =
+    let w = c .before in
+    let s = w .before .before .before in
+    wild-all (s .args .re .now) (s .args .im .now) (s .pre) (w .loop .inv) (omega arith)
+
+pub some-wild-spec : {M : Type 1} → statement M
+some-wild-spec =
+    tie.close
+    (tie.spec
+    Inv-loop
+    μ-loop
+    loop-holds
+    mul-t5
+    shared-slice-read-t8
+    mul-t9
+    shared-slice-read-t11
+    both-finite-requires
+    returns
+    add-i
+    loop-less
+    loop-again
+    returns-2)
