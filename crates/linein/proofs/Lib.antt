@@ -1,0 +1,3 @@
+pub mod Going
+pub mod Growing
+pub mod Filling

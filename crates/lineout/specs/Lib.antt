@@ -1,0 +1,3 @@
+pub mod Writing
+pub mod Numbers
+pub mod Lists

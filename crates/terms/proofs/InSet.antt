@@ -1,0 +1,168 @@
+-- A row of a set multiplied in place by another: what the words have become, as `mulIn` says it. Assumes nothing.
+use mathlib.Core.Path.{_≡_, refl, sym, ap, ap₂, _∙_, subst}
+use mathlib.Core.Logic.{_⊎_, inl, inr}
+use mathlib.Core.Bool.{Bool, true, false, cond, not, _&&_, _||_}
+use mathlib.Core.List.{List, [], _∷_, _++_}
+use Prim.Native.Nat.{ℕ, zero, suc, _+_, _-_, _*_, _/_, _%_, _≤_, _<_}
+use native.Mathlib.Decide.{decLt, ℕ-discrete}
+use native.Mathlib.Nat.{add-sub-cancel-left}
+use native.Mathlib.Omega.{arith}
+use borrow.Author.Tests.{eq-eqb, ne-eqb, lt-ltb, le-ltb, ltb-false}
+use borrow.Rule.Slice.PartMut.{putMid, put-same}
+use lib.Arith.{lt-of-le-ne}
+use lib.Dec.{eqb, ltb}
+use lib.ListN.{length, getD, take, drop, set}
+use lib.Seq.{drop-drop}
+use Rattle.pauli.specs.Pauli.{Pauli, hasX, hasZ, mul, phases}
+use Rattle.encoding.specs.Limits.{maxQubits, maxRows, maxWords, wordsOf}
+use Rattle.encoding.specs.Words.{unpack, pack}
+use Rattle.encoding.specs.Set.{part, row, Mem, mem, count}
+use Rattle.encoding.specs.Refusals.{faultFrom, fault, manyQubits, manyRows, badLengths, outTests}
+use Rattle.encoding.proofs.Scan.{none-of}
+use Rattle.encoding.proofs.Faults.{pass, lengths-fit}
+use Rattle.encoding.proofs.Parts.{row-end, row-long}
+use Rattle.encoding.proofs.Memory.{mem-eq}
+use Rattle.encoding.proofs.Reading.{length-pack}
+use Rattle.products.specs.Leaves.{Outside, Product, Multiplied, inside, Room, ProductIn}
+use Rattle.products.proofs.InPlace.{inside-is}
+use Rattle.products.proofs.PartLaws.{part-put, outside-put}
+use Rattle.terms.specs.Leaves.{bothIn, putRow, mulIn, InRows, RowsMultiplied}
+use Rattle.terms.specs.Work.{Sound}
+
+-- ---- both rows lie inside
+
+module _ {w a b : ℕ} {M : Mem} (h : InRows w a b M) where
+  rows-apart : (a * w ≡ b * w) ⊎ ((a * w + w ≤ b * w) ⊎ (b * w + w ≤ a * w))
+  rows-apart = go (ℕ-discrete a b) (decLt a b)
+    where
+      go : Dec (a ≡ b) → Dec (a < b) → (a * w ≡ b * w) ⊎ ((a * w + w ≤ b * w) ⊎ (b * w + w ≤ a * w))
+      go (yes e) d = inl (ap (λ k. k * w) e)
+      go (no e) (yes l) = inr (inl (row-end a w l))
+      go (no e) (no l) = inr (inr (row-end b w (lt-of-le-ne (omega arith) (λ q. e (sym q)))))
+
+  pub rows-inside : inside w (a * w) (b * w) (M .xs) (M .zs) ≡ true
+  rows-inside =
+      inside-is w (a * w) (b * w) (M .xs) (M .zs)
+      (record {
+        s-x = omega (arith, row-end a w (h .a-in), h .x-long);
+        s-z = omega (arith, row-end a w (h .a-in), h .z-long);
+        t-x = omega (arith, row-end b w (h .b-in), h .x-long);
+        t-z = omega (arith, row-end b w (h .b-in), h .z-long);
+        apart = rows-apart;
+      })
+
+  -- what the leaf and the byte written leave
+  pub rows-multiplied : {xs′ zs′ : List ℕ} {e p : ℕ} → ProductIn w (a * w) (b * w) (M .xs) (M .zs) xs′ zs′ e → p ≡ (getD (M .es) a 0 + getD (M .es) b 0 + e) % 4
+      → RowsMultiplied w a b M (mem xs′ zs′ (set (M .es) a p))
+  rows-multiplied {xs′} {zs′} {e} q f = record { exponent = e; words = q .done rows-inside; bytes = ap (set (M .es) a) f }
+
+-- ---- the shape of a set
+
+pub shape-of : (n : ℕ) (M : Mem) → fault (outTests n (count M) M) ≡ 0
+    → (n ≤ maxQubits) × (count M ≤ maxRows) × (length (M .xs) ≡ count M * wordsOf n) × (length (M .zs) ≡ count M * wordsOf n)
+shape-of n M e =
+    let p1 = pass 0 (manyQubits n) _ e in
+    let p2 = pass 1 (manyRows (count M)) _ (p1 .1) in
+    let p3 = pass 2 (not (eqb (count M) (count M)) || badLengths (count M) (wordsOf n) (length (M .xs)) (length (M .zs))) [] (p2 .1) in
+    let l = lengths-fit (count M) (wordsOf n) (length (M .xs)) (length (M .zs)) (none-of (not (eqb (count M) (count M))) _ (p3 .0) .1) in
+    (ltb-false maxQubits n (p1 .0), ltb-false maxRows (count M) (p2 .0), l .0, l .1)
+
+pub in-rows : (n : ℕ) (M : Mem) (w a b : ℕ) → w ≡ wordsOf n → fault (outTests n (count M) M) ≡ 0 → a < count M → b < count M → InRows w a b M
+in-rows n M w a b hw e ha hb =
+    let s = shape-of n M e in
+    record {
+      few = s .1;
+      narrow = omega (arith, s .0);
+      x-long = s .2 ∙ ap (λ k. count M * k) (sym hw);
+      z-long = s .3 ∙ ap (λ k. count M * k) (sym hw);
+      a-in = ha;
+      b-in = hb;
+    }
+
+-- ---- `mulIn`: nothing where not both are in
+
+module _ (n a b : ℕ) (M : Mem) where
+  stays : bothIn n M a b ≡ false → M ≡ mulIn n a b M
+  unfolding mulIn
+  stays e =
+      let w = wordsOf n in
+      let A = unpack (row w a (M .xs)) (row w a (M .zs)) in
+      let B = unpack (row w b (M .xs)) (row w b (M .zs)) in
+      sym (ap (λ t. cond t (mem (putRow w a (pack hasX w (mul A B)) (M .xs)) (putRow w a (pack hasZ w (mul A B)) (M .zs)) (set (M .es) a ((getD (M .es) a 0 + getD (M .es) b 0 + phases A B) % 4))) M) e)
+
+  pub no-shape : (fault (outTests n (count M) M) ≡ 0 → ⊥) → M ≡ mulIn n a b M
+  no-shape ne = stays (ap (λ t. t && (ltb a (count M) && ltb b (count M))) (ne-eqb _ 0 ne))
+
+  pub no-a : fault (outTests n (count M) M) ≡ 0 → count M ≤ a → M ≡ mulIn n a b M
+  no-a e h = stays (ap₂ (λ s t. s && (t && ltb b (count M))) (eq-eqb _ 0 e) (le-ltb a (count M) h))
+
+  pub no-b : fault (outTests n (count M) M) ≡ 0 → a < count M → count M ≤ b → M ≡ mulIn n a b M
+  no-b e g h = stays (ap₂ (λ s t. s && t) (eq-eqb _ 0 e) (ap₂ (λ s t. s && t) (lt-ltb a (count M) g) (le-ltb b (count M) h)))
+
+-- ---- and the product where both are
+
+-- words whose outside is as it was
+put-is : (s w : ℕ) {old new : List ℕ} → Outside s (s + w) old new → new ≡ putMid s w old (part s (s + w) new)
+put-is s w {old} {new} o =
+    sym (put-same s w new)
+    ∙ ap₂ (λ u v. u ++ (take w (drop s new) ++ v)) (o .before) (drop-drop w s new ∙ o .after ∙ sym (drop-drop w s old))
+    ∙ ap (λ k. putMid s w old (take k (drop s new))) (sym (add-sub-cancel-left s w))
+
+module _ (n a b : ℕ) (M : Mem) (e : fault (outTests n (count M) M) ≡ 0) (ha : a < count M) (hb : b < count M) where
+  both : bothIn n M a b ≡ true
+  both = ap₂ (λ s t. s && t) (eq-eqb _ 0 e) (ap₂ (λ s t. s && t) (lt-ltb a (count M) ha) (lt-ltb b (count M) hb))
+
+  pub becomes : (w : ℕ) → w ≡ wordsOf n → {M′ : Mem} → RowsMultiplied w a b M M′ → M′ ≡ mulIn n a b M
+  unfolding mulIn
+  becomes w hw {M′} q =
+      let v = wordsOf n in
+      let A = unpack (row v a (M .xs)) (row v a (M .zs)) in
+      let B = unpack (row v b (M .xs)) (row v b (M .zs)) in
+      let q′ : RowsMultiplied v a b M M′ = subst (λ k. RowsMultiplied k a b M M′) hw q in
+      let P = q′ .words .here in
+      let l : length (row v a (M .xs)) ≡ v = row-long (count M) v a (M .xs) ha (shape-of n M e .2) in
+      let product-now : M′ ≡ mem (putRow v a (pack hasX v (mul A B)) (M .xs)) (putRow v a (pack hasZ v (mul A B)) (M .zs)) (set (M .es) a ((getD (M .es) a 0 + getD (M .es) b 0 + phases A B) % 4))
+      = mem-eq
+      (put-is (a * v) v (q′ .words .x-rest) ∙ ap (putMid (a * v) v (M .xs)) (P .x-words ∙ ap (λ k. pack hasX k (mul A B)) l))
+      (put-is (a * v) v (q′ .words .z-rest) ∙ ap (putMid (a * v) v (M .zs)) (P .z-words ∙ ap (λ k. pack hasZ k (mul A B)) l))
+      (q′ .bytes ∙ ap (set (M .es) a) (omega (arith, P .exponent))) in
+      product-now ∙ sym (ap (λ t. cond t (mem (putRow v a (pack hasX v (mul A B)) (M .xs)) (putRow v a (pack hasZ v (mul A B)) (M .zs)) (set (M .es) a ((getD (M .es) a 0 + getD (M .es) b 0 + phases A B) % 4))) M) both)
+
+  -- and the other way: what `mulIn` says is the product
+  pub mul-in-is : RowsMultiplied (wordsOf n) a b M (mulIn n a b M)
+  unfolding mulIn
+  mul-in-is =
+      let w = wordsOf n in
+      let s = a * w in
+      let A = unpack (row w a (M .xs)) (row w a (M .zs)) in
+      let B = unpack (row w b (M .xs)) (row w b (M .zs)) in
+      let sh = shape-of n M e in
+      let end = row-end a w ha in
+      let l : length (row w a (M .xs)) ≡ w = row-long (count M) w a (M .xs) ha (sh .2) in
+      let cancel : s + w - s ≡ w = add-sub-cancel-left s w in
+      let at : (f : Pauli → Bool) (us : List ℕ) → length us ≡ count M * w → part s (s + w) (putMid s w us (pack f w (mul A B))) ≡ pack f (length (row w a (M .xs))) (mul A B)
+      = λ f us h. ap (λ k. part s (s + w) (putMid s k us (pack f w (mul A B)))) (sym cancel)
+      ∙ part-put s (s + w) us (pack f w (mul A B)) (omega arith) (omega (arith, end)) (length-pack f w (mul A B) ∙ sym cancel)
+      ∙ ap (λ k. pack f k (mul A B)) (sym l) in
+      let out : (f : Pauli → Bool) (us : List ℕ) → length us ≡ count M * w → Outside s (s + w) us (putMid s w us (pack f w (mul A B)))
+      = λ f us h. subst (λ k. Outside s (s + w) us (putMid s k us (pack f w (mul A B)))) cancel
+      (outside-put s (s + w) us (pack f w (mul A B)) (omega arith) (omega (arith, end)) (length-pack f w (mul A B) ∙ sym cancel)) in
+      let N = mem (putRow w a (pack hasX w (mul A B)) (M .xs)) (putRow w a (pack hasZ w (mul A B)) (M .zs)) (set (M .es) a ((getD (M .es) a 0 + getD (M .es) b 0 + phases A B) % 4)) in
+      subst (λ t. RowsMultiplied w a b M (cond t N M)) (sym both)
+      (record {
+        exponent = phases A B % 4;
+        words =
+            record {
+              here = record { x-words = at hasX (M .xs) (sh .2); z-words = at hasZ (M .zs) (sh .3); exponent = refl };
+              x-rest = out hasX (M .xs) (sh .2);
+              z-rest = out hasZ (M .zs) (sh .3);
+            };
+        bytes = ap (set (M .es) a) (omega arith);
+      })
+
+-- a row set within the limits has the shape
+pub shape-is : {n : ℕ} {M : Mem} → Sound n M → fault (outTests n (count M) M) ≡ 0
+unfolding faultFrom
+shape-is {n} {M} s =
+    let w = wordsOf n in
+    simp (le-ltb maxQubits n (s .few-qubits), le-ltb maxRows (count M) (s .few-rows), eq-eqb (count M) (count M) refl, eq-eqb (length (M .xs)) (count M * w) (s .valid .x-long), eq-eqb (length (M .zs)) (count M * w) (s .valid .z-long))

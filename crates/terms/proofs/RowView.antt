@@ -1,0 +1,223 @@
+-- The leaves over a row set: a column is `bitRow`, the first place is that of `first`, a product in place is `mulAt`. Assumes nothing.
+use mathlib.Core.Path.{_≡_, refl, sym, ap, ap₂, _∙_, subst, fun-ext}
+use mathlib.Core.Logic.{_≢_}
+use mathlib.Core.Bool.{Bool, true, false, cond}
+use mathlib.Core.Option.{Option, none, some}
+use mathlib.Core.List.{List, [], _∷_}
+use Prim.Native.Nat.{ℕ, zero, suc, _+_, _-_, _*_, _/_, _%_, _≤_, _<_}
+use native.Mathlib.Decide.{decLt, ℕ-discrete}
+use native.Mathlib.Omega.{arith}
+use borrow.Author.Tests.{eqb-true, eqb-false, eq-eqb, lt-ltb, le-ltb, le-leb}
+use lib.Dec.{eqb, ltb, leb}
+use lib.ListN.{length, getD, take, drop, set, length-set, length-drop}
+use lib.Seq.{getD-take, getD-drop, take-take, getD-set-same, getD-set-other}
+use Rattle.pauli.specs.Pauli.{Pauli, _·_, mul, phases, ofBits, hasX, hasZ}
+use Rattle.pauli.specs.declared.PauliMatrix.the-variants.{I}
+use Rattle.pauli.specs.Row.{Row, padMul, mulRow, bitOf, bitRow}
+use Rattle.pauli.proofs.Lists.{each-take, length-each}
+use Rattle.pauli.proofs.RowLaws.{row-eq, x-bit, z-bit, hasX-of, hasZ-of, pad-mul}
+use Rattle.encoding.specs.Limits.{maxQubits, maxRows, wordsOf}
+use Rattle.encoding.specs.Words.{bitAt, unpack, qubits, pack}
+use Rattle.encoding.specs.Set.{row, Mem, mem, count, rowsIn, rowsOf, layIn, lay, Packed, Valid}
+use Rattle.encoding.specs.Refusals.{faultFrom, fault, manyQubits, manyRows, badLengths, outTests}
+use Rattle.encoding.proofs.Padding.{cut, pack-same, mul-drop, phases-take}
+use Rattle.encoding.proofs.Reading.{qubits-pack}
+use Rattle.encoding.proofs.Qubits.{qubit-at}
+use Rattle.encoding.proofs.Memory.{mem-eq, x-row, z-row, row-count, clean, laid}
+use Rattle.products.specs.Leaves.{Product, Multiplied}
+use Rattle.products.proofs.PartLaws.{row-other}
+use Rattle.reduction.specs.Rule.{mulAt, first}
+use Rattle.reduction.proofs.Cases.{cond-ind}
+use Rattle.terms.specs.Leaves.{columnOf, bitIn, firstPlace, mulIn}
+use Rattle.terms.specs.Work.{Sound, Keeps, Below}
+use Rattle.terms.proofs.Columns.{bit-within}
+use Rattle.terms.proofs.InSet.{shape-is, mul-in-is}
+
+-- ---- a column
+
+module _ (n w : ℕ) {M : Mem} (v : Valid n w M) (k : ℕ) (hk : k < count M) where
+  qubit : (q : ℕ) → q < n → getD (qubits n (row w k (M .xs)) (row w k (M .zs))) q I
+      ≡ ofBits (bitAt (row w k (M .xs)) (q / 64) (q % 64)) (bitAt (row w k (M .zs)) (q / 64) (q % 64))
+  qubit q h =
+      getD-take n (unpack (row w k (M .xs)) (row w k (M .zs))) q I h
+      ∙ qubit-at (row w k (M .xs)) (row w k (M .zs)) q (omega (arith, x-row n w v k hk, v .wide)) (omega (arith, z-row n w v k hk, v .wide))
+
+  column-view : (c : ℕ) → c < n + n → columnOf n (row w k (M .xs)) (row w k (M .zs)) c ≡ bitOf n (qubits n (row w k (M .xs)) (row w k (M .zs))) c
+  column-view c h = go (decLt c n)
+    where
+      xs : List ℕ
+      xs = row w k (M .xs)
+
+      zs : List ℕ
+      zs = row w k (M .zs)
+
+      go : Dec (c < n) → columnOf n (row w k (M .xs)) (row w k (M .zs)) c ≡ bitOf n (qubits n (row w k (M .xs)) (row w k (M .zs))) c
+      go (yes l) =
+          ap (λ b. cond b (bitAt xs (c / 64) (c % 64)) (bitAt zs ((c - n) / 64) ((c - n) % 64))) (lt-ltb c n l)
+          ∙ sym (x-bit n (qubits n xs zs) c l ∙ ap hasX (qubit c l) ∙ hasX-of (bitAt xs (c / 64) (c % 64)) (bitAt zs (c / 64) (c % 64)))
+      go (no l) =
+          ap (λ b. cond b (bitAt xs (c / 64) (c % 64)) (bitAt zs ((c - n) / 64) ((c - n) % 64))) (le-ltb c n (omega arith))
+          ∙ sym (z-bit n (qubits n xs zs) c (omega arith) ∙ ap hasZ (qubit (c - n) (omega arith)) ∙ hasZ-of (bitAt xs ((c - n) / 64) ((c - n) % 64)) (bitAt zs ((c - n) / 64) ((c - n) % 64)))
+
+pub bit-view : {n : ℕ} {M : Mem} → Sound n M → (k c : ℕ) → k < count M → c < n + n → bitIn n (M .xs) (M .zs) k c ≡ bitRow n (rowsOf n M k) c
+unfolding rowsIn
+bit-view {n} {M} s k c hk hc = sym (bit-within n (M .xs) (M .zs) k c (s .few-qubits) (omega (arith, s .few-rows))) ∙ column-view n (wordsOf n) (s .valid) k hk c hc
+
+-- ---- the first place
+
+-- a place within the list is that of the first row found; none is found where it is the end
+module _ {R : Type 0} (bit : R → ℕ → Bool) (σ : ℕ → R) (c : ℕ) (f : ℕ → Bool) where
+  abbrev Tells : List ℕ → Type 0
+  Tells l = (i : ℕ) → i < length l → f (getD l i 0) ≡ bit (σ (getD l i 0)) c
+
+  found : (k : ℕ) (ks : List ℕ) (b : Bool) → f k ≡ b → bit (σ k) c ≡ b → cond b 0 (suc (firstPlace f ks)) < suc (length ks)
+      → (firstPlace f ks < length ks → first bit σ c ks ≡ some (getD ks (firstPlace f ks) 0)) → cond b (some k) (first bit σ c ks) ≡ some (getD (k ∷ ks) (cond b 0 (suc (firstPlace f ks))) 0)
+  found k ks true e d g ih = refl
+  found k ks false e d g ih = ih (omega arith)
+
+  pub place-some : (l : List ℕ) → Tells l → firstPlace f l < length l → first bit σ c l ≡ some (getD l (firstPlace f l) 0)
+  unfolding firstPlace first
+  place-some [] h g = absurd (omega arith)
+  place-some (k ∷ ks) h g =
+      ap (λ b. cond b (some k) (first bit σ c ks)) (sym (h 0 (omega arith)))
+      ∙ found k ks (f k) refl (sym (h 0 (omega arith))) g (place-some ks (λ i l. h (suc i) (omega arith)))
+
+  missed : (k : ℕ) (ks : List ℕ) (b : Bool) → suc (length ks) ≤ cond b 0 (suc (firstPlace f ks)) → (length ks ≤ firstPlace f ks → first bit σ c ks ≡ none) → cond b (some k) (first bit σ c ks) ≡ none
+  missed k ks true g ih = absurd (omega arith)
+  missed k ks false g ih = ih (omega arith)
+
+  pub place-none : (l : List ℕ) → Tells l → length l ≤ firstPlace f l → first bit σ c l ≡ none
+  unfolding firstPlace first
+  place-none [] h g = refl
+  place-none (k ∷ ks) h g =
+      ap (λ b. cond b (some k) (first bit σ c ks)) (sym (h 0 (omega arith))) ∙ missed k ks (f k) g (place-none ks (λ i l. h (suc i) (omega arith)))
+
+-- the place that the search gives, from t on
+module _ {n : ℕ} {M : Mem} (s : Sound n M) (l : List ℕ) (t c r : ℕ) (ht : t ≤ length l) (hl : Below (count M) l) (hc : c < n + n)
+    (e : r ≡ t + firstPlace (λ k. bitIn n (M .xs) (M .zs) k c) (drop t l)) where
+  tells : (i : ℕ) → i < length (drop t l) → bitIn n (M .xs) (M .zs) (getD (drop t l) i 0) c ≡ bitRow n (rowsOf n M (getD (drop t l) i 0)) c
+  tells i h =
+      let at : getD (drop t l) i 0 ≡ getD l (t + i) 0 = getD-drop t l i 0 in
+      bit-view s (getD (drop t l) i 0) c (subst (λ k. k < count M) (sym at) (hl (t + i) (omega (arith, length-drop t l)))) hc
+
+  pub find-some : r < length l → first (bitRow n) (rowsOf n M) c (drop t l) ≡ some (getD l r 0)
+  find-some h =
+      let f : ℕ → Bool = λ k. bitIn n (M .xs) (M .zs) k c in
+      place-some (bitRow n) (rowsOf n M) c f (drop t l) tells (omega (arith, length-drop t l))
+      ∙ ap (λ k. some k) (getD-drop t l (firstPlace f (drop t l)) 0 ∙ ap (λ j. getD l j 0) (sym e))
+
+  pub find-none : length l ≤ r → first (bitRow n) (rowsOf n M) c (drop t l) ≡ none
+  find-none h = place-none (bitRow n) (rowsOf n M) c (λ k. bitIn n (M .xs) (M .zs) k c) (drop t l) tells (omega (arith, length-drop t l))
+
+  pub find-from : t ≤ r
+  find-from = omega arith
+
+-- ---- a product in place
+
+module _ (n w : ℕ) {M : Mem} (v : Valid n w M) (a b : ℕ) (ha : a < count M) (hb : b < count M) where
+  qs : ℕ → List Pauli
+  qs r = qubits n (row w r (M .xs)) (row w r (M .zs))
+
+  -- the product of the whole words is that of the n qubits
+  cut-product : (f : Pauli → Bool) → f I ≡ false
+      → pack f w (mul (unpack (row w a (M .xs)) (row w a (M .zs))) (unpack (row w b (M .xs)) (row w b (M .zs)))) ≡ pack f w (mul (qs a) (qs b))
+  unfolding qs
+  cut-product f f0 =
+      let A = unpack (row w a (M .xs)) (row w a (M .zs)) in
+      let B = unpack (row w b (M .xs)) (row w b (M .zs)) in
+      sym (pack-same f f0 w (take n (mul A B)) (mul A B) (cut n (mul A B) (mul-drop n A B (clean n w v a ha) (clean n w v b hb)))) ∙ ap (pack f w) (each-take _·_ n A B)
+
+  cut-all : (r : ℕ) → take n (qs r) ≡ qs r
+  unfolding qs
+  cut-all r = take-take n n (unpack (row w r (M .xs)) (row w r (M .zs))) (omega arith)
+
+  module _ {xs′ zs′ : List ℕ} {e : ℕ} (q : Multiplied w (a * w) (b * w) (M .xs) (M .zs) xs′ zs′ e) where
+    x-new : row w a xs′ ≡ pack hasX w (mul (qs a) (qs b))
+    x-new = q .here .x-words ∙ ap (λ k. pack hasX k (mul (unpack (row w a (M .xs)) (row w a (M .zs))) (unpack (row w b (M .xs)) (row w b (M .zs))))) (x-row n w v a ha) ∙ cut-product hasX refl
+
+    z-new : row w a zs′ ≡ pack hasZ w (mul (qs a) (qs b))
+    z-new = q .here .z-words ∙ ap (λ k. pack hasZ k (mul (unpack (row w a (M .xs)) (row w a (M .zs))) (unpack (row w b (M .xs)) (row w b (M .zs))))) (x-row n w v a ha) ∙ cut-product hasZ refl
+
+    new : qubits n (row w a xs′) (row w a zs′) ≡ mul (qs a) (qs b)
+    unfolding qs
+    new =
+        ap₂ (qubits n) x-new z-new
+        ∙ qubits-pack n w (mul (qs a) (qs b)) (length-each _·_ (qs a) (qs b) (row-count n w v b hb ∙ sym (row-count n w v a ha)) ∙ row-count n w v a ha) (v .wide)
+
+    packed-new : Packed n w (row w a xs′) (row w a zs′)
+    packed-new = record { x-is = x-new ∙ ap (pack hasX w) (sym new); z-is = z-new ∙ ap (pack hasZ w) (sym new) }
+
+    value : ℕ
+    value = (getD (M .es) a 0 + getD (M .es) b 0 + e) % 4
+
+    exponent : value ≡ (getD (M .es) a 0 + getD (M .es) b 0 + phases (take n (qs a)) (take n (qs b))) % 4
+    unfolding qs value
+    exponent =
+        let A = unpack (row w a (M .xs)) (row w a (M .zs)) in
+        let B = unpack (row w b (M .xs)) (row w b (M .zs)) in
+        omega (arith, q .here .exponent, phases-take n A B (clean n w v a ha), ap₂ phases (cut-all a) (cut-all b))
+
+    M′ : Mem
+    M′ = mem xs′ zs′ (set (M .es) a value)
+
+    valid-new : Valid n w M′
+    unfolding M′ value
+    valid-new =
+        record {
+          wide = v .wide;
+          x-long = q .x-rest .long ∙ v .x-long ∙ ap (λ (k : ℕ). k * w) (sym (length-set (M .es) a value));
+          z-long = q .z-rest .long ∙ v .z-long ∙ ap (λ (k : ℕ). k * w) (sym (length-set (M .es) a value));
+          packed = λ r h. go-packed r (subst (λ (k : ℕ). r < k) (length-set (M .es) a value) h) (ℕ-discrete r a);
+          small = λ r. go-small r (ℕ-discrete r a);
+        }
+      where
+        go-packed : (r : ℕ) → r < count M → Dec (r ≡ a) → Packed n w (row w r xs′) (row w r zs′)
+        go-packed r h (yes t) = subst (λ (k : ℕ). Packed n w (row w k xs′) (row w k zs′)) (sym t) packed-new
+        go-packed r h (no ne) =
+            subst (λ (s : List ℕ). Packed n w s (row w r zs′)) (sym (row-other w r a (q .x-rest) ne))
+            (subst (λ (s : List ℕ). Packed n w (row w r (M .xs)) s) (sym (row-other w r a (q .z-rest) ne)) (v .packed r h))
+
+        go-small : (r : ℕ) → Dec (r ≡ a) → getD (set (M .es) a value) r 0 < 4
+        go-small r (yes t) = subst (λ (k : ℕ). getD (set (M .es) a value) k 0 < 4) (sym t) (subst (λ (k : ℕ). k < 4) (sym (getD-set-same (M .es) a value 0 ha)) (omega arith))
+        go-small r (no ne) = subst (λ (k : ℕ). k < 4) (sym (getD-set-other (M .es) a r value 0 ne)) (v .small r)
+
+    rows-new : rowsIn n w M′ ≡ mulAt (mulRow n) (rowsIn n w M) a b
+    unfolding mulAt mulRow rowsIn qs M′
+    rows-new =
+        let es′ = set (M .es) a value in
+        fun-ext (λ k. cond-ind (λ (s : Row). _≡_ {A = Row} (record { ps = qubits n (row w k xs′) (row w k zs′); p = getD es′ k 0 }) s) (eqb k a)
+        (λ t. subst (λ (j : ℕ). _≡_ {A = Row} (record { ps = qubits n (row w j xs′) (row w j zs′); p = getD es′ j 0 })
+        (record { ps = padMul (qs a) (qs b); p = (getD (M .es) a 0 + getD (M .es) b 0 + phases (take n (qs a)) (take n (qs b))) % 4 })) (sym (eqb-true k a t))
+        (row-eq (new ∙ sym (pad-mul (qs a) (qs b) (row-count n w v b hb ∙ sym (row-count n w v a ha)))) (getD-set-same (M .es) a value 0 ha ∙ exponent)))
+        (λ t.
+        let ne = eqb-false k a t in
+        row-eq (ap₂ (qubits n) (row-other w k a (q .x-rest) ne) (row-other w k a (q .z-rest) ne)) (getD-set-other (M .es) a k value 0 ne)))
+
+-- what a product in place leaves of a row set
+pub record Held (n : ℕ) (σ : ℕ → Row) (M M′ : Mem) : Type 0 where
+  pub keeps : Keeps n M M′
+  pub rows-are : rowsOf n M′ ≡ σ
+  pub laid-out : M′ ≡ lay n (count M) σ
+
+pub mul-view : {n : ℕ} {M : Mem} → Sound n M → (a b : ℕ) → a < count M → b < count M → Held n (mulAt (mulRow n) (rowsOf n M) a b) M (mulIn n a b M)
+unfolding M′ value
+mul-view {n} {M} s a b ha hb =
+    let w = wordsOf n in
+    let v = s .valid in
+    let q = mul-in-is n a b M (shape-is s) ha hb in
+    let N = mulIn n a b M in
+    let e : M′ n w v a b ha hb (q .words) ≡ N = mem-eq refl refl (sym (q .bytes)) in
+    let valid : Valid n w N = subst (Valid n w) e (valid-new n w v a b ha hb (q .words)) in
+    let rows : rowsOf n N ≡ mulAt (mulRow n) (rowsOf n M) a b = ap (rowsIn n w) (sym e) ∙ rows-new n w v a b ha hb (q .words) in
+    let many : count N ≡ count M = ap length (q .bytes) ∙ length-set (M .es) a _ in
+    record {
+      keeps =
+          record {
+            sound = record { valid = valid; few-qubits = s .few-qubits; few-rows = omega (arith, many, s .few-rows) };
+            x-len = valid .x-long ∙ ap (λ k. k * w) many ∙ sym (v .x-long);
+            z-len = valid .z-long ∙ ap (λ k. k * w) many ∙ sym (v .z-long);
+            e-len = many;
+          };
+      rows-are = rows;
+      laid-out = laid n w valid rows ∙ ap (λ m. lay n m (mulAt (mulRow n) (rowsOf n M) a b)) many;
+    }

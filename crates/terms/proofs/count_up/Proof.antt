@@ -1,0 +1,59 @@
+use Rattle.terms.proofs.Answers.{count-more, count-all}
+use borrow.Author.Needs.{needs}
+use native.Mathlib.Omega.{arith}
+use mathlib.Core.Path.{_≡_, refl, sym, ap, _∙_}
+use Prim.Native.Nat.{ℕ, _+_, _*_, _-_, _/_, _<_, _≤_}
+use lib.ListN.{length, getD, drop, take, length-set}
+use Rattle.terms.proofs.count_up.Statement.{statement}
+use Rattle.terms.proofs.count_up.Tie as tie
+use Rattle.terms.proofs.count_up.Reads as reads
+use Rattle.terms.proofs.count_up.Lts as lts
+
+abbrev Inv-loop : tie.InvT-loop
+Inv-loop list₀ m i₀ list i = (i ≤ m) × (length list ≡ m) × ((j : ℕ) → j < i → getD list j 0 ≡ j)
+
+abbrev μ-loop : tie.MeasureT-loop
+μ-loop list₀ m i₀ list i = m - i
+
+loop-holds : tie.Need-loop-holds Inv-loop μ-loop
+loop-holds c = (omega arith, refl, λ j h. absurd (omega arith))
+
+cast-list : tie.Need-cast-list Inv-loop μ-loop
+cast-list c = search needs
+
+mul-list : tie.Need-mul-list Inv-loop μ-loop
+mul-list c = search needs
+
+slice-write-list : tie.Need-slice-write-list Inv-loop μ-loop
+slice-write-list c = search needs
+
+add-i : tie.Need-add-i Inv-loop μ-loop
+add-i c = search needs
+
+loop-less : tie.Need-loop-less Inv-loop μ-loop
+loop-less c = search needs
+
+loop-again : tie.Need-loop-again Inv-loop μ-loop
+loop-again c = let l = c .before .loop in (omega arith, length-set (l .list) (l .i) (l .i) ∙ l .inv .1, count-more (l .list) (l .i) (omega arith) (l .inv .2))
+
+same-length : tie.Need-same-length Inv-loop μ-loop
+same-length c = search needs
+
+returns : tie.Need-returns Inv-loop μ-loop
+returns c = let l = c .before .loop in count-all (l .list) _ (l .inv .1) (λ j h. l .inv .2 j (omega arith))
+
+pub count-up-spec : {M : Type 1} → statement M
+count-up-spec =
+    tie.close
+    (tie.spec
+    Inv-loop
+    μ-loop
+    loop-holds
+    cast-list
+    mul-list
+    slice-write-list
+    add-i
+    loop-less
+    loop-again
+    same-length
+    returns)

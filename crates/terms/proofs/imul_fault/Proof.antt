@@ -1,0 +1,29 @@
+use Rattle.terms.proofs.Answers.{imul-told}
+use Rattle.encoding.specs.Set.{mem}
+use native.Mathlib.Omega.{arith}
+use mathlib.Core.Path.{_≡_, refl, sym, ap, _∙_}
+use Prim.Native.Nat.{ℕ, _+_, _*_, _-_, _/_, _<_, _≤_}
+use lib.ListN.{length, getD, drop, take, length-set}
+use borrow.Author.Needs.{needs}
+use Rattle.terms.proofs.imul_fault.Statement.{statement}
+use Rattle.terms.proofs.imul_fault.Tie as tie
+use Rattle.terms.proofs.imul_fault.Reads as reads
+use Rattle.terms.proofs.imul_fault.Lts as lts
+use Rattle.encoding.proofs.pick.Reads as pick-reads
+use Rattle.encoding.proofs.set_fault.Reads as set-fault-reads
+use Rattle.encoding.proofs.smaller.Reads as smaller-reads
+
+set-fault-requires : tie.Need-set-fault-requires
+set-fault-requires c κs = search needs
+
+pick-requires : tie.Need-pick-requires
+pick-requires c κs = search needs
+
+smaller-requires : tie.Need-smaller-requires
+smaller-requires c κs = search needs
+
+returns : tie.Need-returns
+returns c = let a = c .before .before .before .before .before .before .args in imul-told (a .n) (mem (a .x .now) (a .z .now) (a .phases .now)) (c .before .before .set-fault .ensures .0) (c .before .before .set-fault .ensures .1) (a .a) (a .b) _ _ (c .before .pick .ensures) (c .smaller .ensures)
+
+pub imul-fault-spec : {M : Type 1} → statement M
+imul-fault-spec = tie.close (tie.spec set-fault-requires pick-requires smaller-requires returns)

@@ -1,0 +1,71 @@
+use Rattle.encoding.proofs.Scan.{some-hit, some-more, some-end}
+use Rattle.encoding.specs.Refusals.{some, tooLarge}
+use borrow.Author.Needs.{needs}
+use native.Mathlib.Omega.{arith}
+use mathlib.Core.Path.{_≡_, refl, sym, ap, _∙_}
+use Prim.Native.Nat.{ℕ, _+_, _*_, _-_, _/_, _<_, _≤_}
+use lib.ListN.{length, getD, drop, take, length-set}
+use Rattle.terms.proofs.lists.too_large.Statement.{statement}
+use Rattle.terms.proofs.lists.too_large.Tie as tie
+use Rattle.terms.proofs.lists.too_large.Reads as reads
+use Rattle.terms.proofs.lists.too_large.Lts as lts
+use Rattle.terms.proofs.lists.reaches.Reads as reaches-reads
+
+abbrev Inv-loop : tie.InvT-loop
+Inv-loop list a b i₀ i = (i ≤ length list) × (some (tooLarge (a + b)) (drop i list) ≡ some (tooLarge (a + b)) list)
+
+abbrev μ-loop : tie.MeasureT-loop
+μ-loop list a b i₀ i = length list - i
+
+loop-holds : tie.Need-loop-holds Inv-loop μ-loop
+loop-holds c = (search needs, refl)
+
+mul-reaches : tie.Need-mul-reaches Inv-loop μ-loop
+mul-reaches c = search needs
+
+shared-slice-read-reaches : tie.Need-shared-slice-read-reaches Inv-loop μ-loop
+shared-slice-read-reaches c = search needs
+
+cast-reaches : tie.Need-cast-reaches Inv-loop μ-loop
+cast-reaches c = omega (arith, c .shared-slice-known2 .given (c .before .before .loop .i))
+
+reaches-requires : tie.Need-reaches-requires Inv-loop μ-loop
+reaches-requires c κs = search needs
+
+returns : tie.Need-returns Inv-loop μ-loop
+returns c = let a = c .before .before .before .before .before .before .args in
+    let l = c .before .before .before .before .loop in
+    sym (some-hit (tooLarge (a .a + a .b)) 0 (a .list .now) (l .i) (c .before .before .before .loop-test .taken) (sym (c .before .reaches .ensures) ∙ c .if1 .taken)) ∙ l .inv .1
+
+add-i : tie.Need-add-i Inv-loop μ-loop
+add-i c = search needs
+
+loop-less : tie.Need-loop-less Inv-loop μ-loop
+loop-less c = search needs
+
+loop-again : tie.Need-loop-again Inv-loop μ-loop
+loop-again c = let a = c .before .before .before .before .before .before .args in
+    let l = c .before .before .before .before .loop in
+    (omega arith, some-more (tooLarge (a .a + a .b)) 0 (a .list .now) (l .i) (c .before .before .before .loop-test .taken) (sym (c .before .reaches .ensures) ∙ c .if1 .left) ∙ l .inv .1)
+
+returns-2 : tie.Need-returns-2 Inv-loop μ-loop
+returns-2 c = let a = c .before .before .before .args in
+    let l = c .before .loop in
+    sym (some-end (tooLarge (a .a + a .b)) 0 (a .list .now) (l .i) (c .loop-test .left)) ∙ l .inv .1
+
+pub too-large-spec : {M : Type 1} → statement M
+too-large-spec =
+    tie.close
+    (tie.spec
+    Inv-loop
+    μ-loop
+    loop-holds
+    mul-reaches
+    shared-slice-read-reaches
+    cast-reaches
+    reaches-requires
+    returns
+    add-i
+    loop-less
+    loop-again
+    returns-2)

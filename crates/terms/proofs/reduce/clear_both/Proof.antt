@@ -1,0 +1,79 @@
+use Rattle.terms.proofs.Pieces.{through-append}
+use Rattle.terms.proofs.Steps.{does-as, does-then, does-full, ready-next}
+use Rattle.terms.specs.Work.{runOf}
+use Rattle.reduction.specs.Twin.{through, turnC}
+use Rattle.reduction.specs.Log.{capacity}
+use Rattle.encoding.specs.Set.{mem}
+use Rattle.pauli.specs.Row.{mulRow, bitRow}
+use native.Mathlib.Omega.{arith}
+use mathlib.Core.Path.{_≡_, refl, sym, ap, _∙_}
+use Prim.Native.Nat.{ℕ, _+_, _*_, _-_, _/_, _<_, _≤_}
+use lib.ListN.{length, getD, drop, take, length-set}
+use borrow.Author.Needs.{needs}
+use Rattle.terms.proofs.reduce.clear_both.Statement.{statement}
+use Rattle.terms.proofs.reduce.clear_both.Tie as tie
+use Rattle.terms.proofs.reduce.clear_both.Reads as reads
+use Rattle.terms.proofs.reduce.clear_both.Lts as lts
+use Rattle.terms.proofs.reduce.clear.Reads as clear-reads
+
+clear-requires : tie.Need-clear-requires
+clear-requires c κs = search needs
+
+same-length : tie.Need-same-length
+same-length c = search needs
+
+same-length-2 : tie.Need-same-length-2
+same-length-2 c = search needs
+
+same-length-3 : tie.Need-same-length-3
+same-length-3 c = search needs
+
+same-length-4 : tie.Need-same-length-4
+same-length-4 c = search needs
+
+returns : tie.Need-returns
+returns c = let a = c .before .before .before .before .before .before .before .before .before .before .before .before .before .before .before .before .before .before .before .before .args in
+    does-as (through-append (turnC (bitRow (a .n)) (mulRow (a .n)) (capacity (a .log .now)) (a .c) (a .pivot)) (a .listed .now) (a .extra .now) (runOf (a .n) (mem (a .x .now) (a .z .now) (a .p .now)) (a .log .now) (a .s)))
+    (does-full (λ r. through (turnC (bitRow (a .n)) (mulRow (a .n)) (capacity (a .log .now)) (a .c) (a .pivot)) (a .extra .now) r) (c .before .before .before .before .before .before .before .before .before .clear .ensures) (c .if1 .taken))
+
+clear-requires-2 : tie.Need-clear-requires-2
+clear-requires-2 c κs = let s = c .before .before .before .before .before .before .before .before .before .before .before .before .before .before .before .before .before .before .before .before .before .before .before .before in
+    let h = s .pre .1 in
+    let d = c .before .before .before .before .before .before .before .before .before .before .before .before .before .clear .ensures in
+    (ready-next d (c .before .before .before .before .if1 .left), (h .0, omega (arith, d .keeps .e-len, h .1), λ i hi. omega (arith, d .keeps .e-len, h .3 i hi)))
+
+same-length-5 : tie.Need-same-length-5
+same-length-5 c = search needs
+
+same-length-6 : tie.Need-same-length-6
+same-length-6 c = search needs
+
+same-length-7 : tie.Need-same-length-7
+same-length-7 c = search needs
+
+same-length-8 : tie.Need-same-length-8
+same-length-8 c = search needs
+
+returns-2 : tie.Need-returns-2
+returns-2 c = let a = c .before .before .before .before .before .before .before .before .before .before .before .before .before .before .before .before .before .before .before .before .before .before .before .before .before .before .before .before .before .before .before .before .before .args in
+    let d = c .before .before .before .before .before .before .before .before .before .before .before .before .before .before .before .before .before .before .before .before .before .before .clear in
+    let same = ap (λ m. through (turnC (bitRow (a .n)) (mulRow (a .n)) (m / 2) (a .c) (a .pivot)) (a .extra .now) (runOf (a .n) (mem (d .last .1 .0) (d .last .1 .1 .0) (d .last .1 .1 .1 .0)) (d .last .1 .1 .1 .1 .0) (d .result))) (d .ensures .log-len) in
+    does-as (through-append (turnC (bitRow (a .n)) (mulRow (a .n)) (capacity (a .log .now)) (a .c) (a .pivot)) (a .listed .now) (a .extra .now) (runOf (a .n) (mem (a .x .now) (a .z .now) (a .p .now)) (a .log .now) (a .s)))
+    (does-then (d .ensures) (c .before .before .before .before .before .before .before .before .before .before .before .before .before .if1 .left) (does-as same (c .before .before .before .before .before .before .before .before .clear2 .ensures)))
+
+pub clear-both-spec : {M : Type 1} → statement M
+clear-both-spec =
+    tie.close
+    (tie.spec
+    clear-requires
+    same-length
+    same-length-2
+    same-length-3
+    same-length-4
+    returns
+    clear-requires-2
+    same-length-5
+    same-length-6
+    same-length-7
+    same-length-8
+    returns-2)

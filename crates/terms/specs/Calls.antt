@@ -1,0 +1,62 @@
+-- Document 01, "imul", "The reduction rule" and refusal 8: what the three calls answer, and what they leave in rows, phase bytes and log. A refusal
+-- leaves all as it was. Assumes nothing.
+use Prim.Native.Nat.{ℕ, zero, suc, _+_}
+use mathlib.Core.Path.{_≡_}
+use mathlib.Core.List.{List, []}
+use lib.ListN.{length}
+use Rattle.pauli.specs.Row.{Row, mulRow, bitRow}
+use Rattle.encoding.specs.Set.{Mem, count, rowsOf, list, lay}
+use Rattle.encoding.specs.Refusals.{fault, setTests, doneOr, leftOr}
+use Rattle.encoding.specs.declared.Answer.{Answer}
+use Rattle.reduction.specs.Rule.{Entry, mulAt}
+use Rattle.reduction.specs.Log.{logged, capacity}
+use Rattle.reduction.specs.Capacity.{Reduced, done, full, capped}
+use Rattle.terms.specs.Refused.{reduceTests, imulTests}
+use Rattle.terms.specs.declared.Canonicalized.{Canonicalized}
+use Rattle.terms.specs.declared.Canonicalized.the-variants.{Done, Full, Refused}
+
+-- ---- row a is multiplied by row b, in place
+
+pub record Multiplies (n a b : ℕ) (M M′ : Mem) (r : Answer) : Type 0 where
+  pub answer : r ≡ doneOr (fault (imulTests n M a b))
+  pub rows : M′ ≡ leftOr (fault (imulTests n M a b)) M (lay n (count M) (mulAt (mulRow n) (rowsOf n M) a b))
+
+-- ---- reduction with a log
+
+-- the answers: 1 to 7, refused with that number; 8, full with the capacity; else done, with "the entry count and t"
+abbrev pub answerOf : ℕ → ℕ → Reduced Row → Canonicalized
+answerOf zero room (done s) = Done (length (s .log)) (s .t)
+answerOf zero room (full l σ) = Full room
+answerOf (suc k) room out = Refused (suc k)
+
+-- the rows and the entries that a reducer ends with
+abbrev pub rowsLeft : Reduced Row → ℕ → Row
+rowsLeft (done s) = s .rows
+rowsLeft (full l σ) = σ
+
+abbrev pub entriesLeft : Reduced Row → List Entry
+entriesLeft (done s) = s .log
+entriesLeft (full l σ) = l
+
+-- what is left where f is the first number that fits, and out what the rule comes to
+pub record Leaves (n f : ℕ) (out : Reduced Row) (M : Mem) (log : List ℕ) (M′ : Mem) (log′ : List ℕ) (r : Canonicalized) : Type 0 where
+  pub answer : r ≡ answerOf f (capacity log) out
+  pub rows : M′ ≡ leftOr f M (lay n (count M) (rowsLeft out))
+  pub entries : log′ ≡ leftOr f log (logged (entriesLeft out) log)
+
+-- the rule over the rows in memory, with the log that is lent
+abbrev pub outcomeOf : ℕ → List ℕ → List ℕ → List ℕ → Mem → List ℕ → Reduced Row
+outcomeOf n order listed extra M log = capped (bitRow n) (mulRow n) (capacity log) order listed extra (rowsOf n M)
+
+abbrev pub Reduces : ℕ → List ℕ → List ℕ → List ℕ → Mem → List ℕ → Mem → List ℕ → Canonicalized → Type 0
+Reduces n order listed extra M log M′ log′ r = Leaves n (fault (reduceTests n M order listed extra)) (outcomeOf n order listed extra M log) M log M′ log′ r
+
+-- all columns, X of each qubit and then Z; all rows listed, in order; no extra rows
+abbrev pub upTo : ℕ → List ℕ
+upTo k = list k (λ i. i)
+
+abbrev pub wholeOutcome : ℕ → Mem → List ℕ → Reduced Row
+wholeOutcome n M log = outcomeOf n (upTo (n + n)) (upTo (count M)) [] M log
+
+abbrev pub ReducesAll : ℕ → Mem → List ℕ → Mem → List ℕ → Canonicalized → Type 0
+ReducesAll n M log M′ log′ r = Leaves n (fault (setTests n M)) (wholeOutcome n M log) M log M′ log′ r

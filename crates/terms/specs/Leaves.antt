@@ -1,0 +1,61 @@
+-- What the leaves give that reducer and checker share: a column of a row, the first place with it set, a row multiplied by another. They take any
+-- input; of a row set, proofs/RowView.antt says that they are `bitRow`, `first` and `mulAt`. Assumes nothing.
+use mathlib.Core.Path.{_≡_}
+use mathlib.Core.Bool.{Bool, true, false, cond, _&&_}
+use mathlib.Core.List.{List, [], _∷_, _++_}
+use Prim.Native.Nat.{ℕ, zero, suc, _+_, _-_, _*_, _/_, _%_, _≤_, _<_}
+use lib.Dec.{eqb, leb, ltb}
+use lib.ListN.{length, getD, take, drop, set}
+use Rattle.pauli.specs.Pauli.{hasX, hasZ, mul, phases}
+use Rattle.encoding.specs.Limits.{maxQubits, maxRows, maxWords, wordsOf}
+use Rattle.encoding.specs.Words.{bitAt, unpack, pack}
+use Rattle.encoding.specs.Set.{row, Mem, mem, count}
+use Rattle.encoding.specs.Refusals.{fault, outTests}
+use Rattle.products.specs.Leaves.{Multiplied}
+
+-- column c of a row's two parts: X of qubit c, from n on Z of qubit c - n
+abbrev pub columnOf : ℕ → List ℕ → List ℕ → ℕ → Bool
+columnOf n xs zs c = cond (ltb c n) (bitAt xs (c / 64) (c % 64)) (bitAt zs ((c - n) / 64) ((c - n) % 64))
+
+-- column c of row k; past the limits no bit is set
+unfoldable pub bitIn : ℕ → List ℕ → List ℕ → ℕ → ℕ → Bool
+bitIn n xs zs k c = (leb n maxQubits && ltb k maxRows) && columnOf n (row (wordsOf n) k xs) (row (wordsOf n) k zs) c
+
+-- the first place of the list whose number passes the test; the list's length if there is none
+unfoldable pub firstPlace : (ℕ → Bool) → List ℕ → ℕ
+firstPlace f [] = 0
+firstPlace f (k ∷ ks) = cond (f k) 0 (suc (firstPlace f ks))
+
+-- what refusals 1 to 3 ask of a set, and both rows are in it
+abbrev pub bothIn : ℕ → Mem → ℕ → ℕ → Bool
+bothIn n M a b = eqb (fault (outTests n (count M) M)) 0 && (ltb a (count M) && ltb b (count M))
+
+-- the words with others in the place of row r
+abbrev pub putRow : ℕ → ℕ → List ℕ → List ℕ → List ℕ
+putRow w r v xs = take (r * w) xs ++ (v ++ drop w (drop (r * w) xs))
+
+-- Row a multiplied by row b: its words are those of the product, its phase byte p_a + p_b + phase(a,b) mod 4. Where not both are in, nothing is done.
+unfoldable pub mulIn : ℕ → ℕ → ℕ → Mem → Mem
+mulIn n a b M =
+    let w = wordsOf n in
+    let A = unpack (row w a (M .xs)) (row w a (M .zs)) in
+    let B = unpack (row w b (M .xs)) (row w b (M .zs)) in
+    cond (bothIn n M a b)
+    (mem (putRow w a (pack hasX w (mul A B)) (M .xs)) (putRow w a (pack hasZ w (mul A B)) (M .zs)) (set (M .es) a ((getD (M .es) a 0 + getD (M .es) b 0 + phases A B) % 4)))
+    M
+
+-- ---- the worker behind it
+
+-- m rows of w words, within the limits, and both rows in it
+pub record InRows (w a b : ℕ) (M : Mem) : Type 0 where
+  pub few : count M ≤ maxRows
+  pub narrow : w ≤ maxWords
+  pub x-long : length (M .xs) ≡ count M * w
+  pub z-long : length (M .zs) ≡ count M * w
+  pub a-in : a < count M
+  pub b-in : b < count M
+
+pub record RowsMultiplied (w a b : ℕ) (M M′ : Mem) : Type 0 where
+  pub exponent : ℕ
+  pub words : Multiplied w (a * w) (b * w) (M .xs) (M .zs) (M′ .xs) (M′ .zs) exponent
+  pub bytes : M′ .es ≡ set (M .es) a ((getD (M .es) a 0 + getD (M .es) b 0 + exponent) % 4)

@@ -1,0 +1,4 @@
+pub mod Refused
+pub mod Leaves
+pub mod Work
+pub mod Calls

@@ -1,0 +1,26 @@
+-- Document 01, refusals 6 and 7, of the column order and the lists that a reduction and its check take: n qubits, m rows. Assumes nothing.
+use mathlib.Core.Bool.{Bool, false, not, _||_}
+use mathlib.Core.List.{List, [], _∷_}
+use Prim.Native.Nat.{ℕ, _+_}
+use Rattle.encoding.specs.Set.{Mem, count}
+use Rattle.encoding.specs.Refusals.{some, tooLarge, joined, setTests, numberTests}
+use Rattle.reduction.specs.Lists.{distinct}
+
+-- 6: a column number of 2n or above in the order, or a row number of m or above in a list
+abbrev pub largeNumber : ℕ → ℕ → List ℕ → List ℕ → List ℕ → Bool
+largeNumber n m order listed extra = some (tooLarge (n + n)) order || (some (tooLarge m) listed || some (tooLarge m) extra)
+
+-- 7: a listed row repeated
+abbrev pub repeated : List ℕ → Bool
+repeated listed = not (distinct listed)
+
+abbrev pub listTests : ℕ → ℕ → List ℕ → List ℕ → List ℕ → List Bool
+listTests n m order listed extra = false ∷ false ∷ false ∷ false ∷ false ∷ largeNumber n m order listed extra ∷ repeated listed ∷ []
+
+-- 1 to 7: a set that is read, an order and lists
+abbrev pub reduceTests : ℕ → Mem → List ℕ → List ℕ → List ℕ → List Bool
+reduceTests n M order listed extra = joined (setTests n M) (listTests n (count M) order listed extra)
+
+-- 1 to 6: a set that is read, two row numbers
+abbrev pub imulTests : ℕ → Mem → ℕ → ℕ → List Bool
+imulTests n M a b = joined (setTests n M) (numberTests (tooLarge (count M) a || tooLarge (count M) b))

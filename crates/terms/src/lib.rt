@@ -1,0 +1,196 @@
+// Terms: the product of two rows of a set in place, and the reduction of a set with its log.
+ghost use mathlib.Core.Path.{_≡_};
+ghost use Prim.Native.Nat.{_+_, _≤_};
+ghost use lib.ListN.{length};
+ghost use Rattle.encoding.specs.Set.{mem};
+ghost use Rattle.encoding.specs.Limits.{maxQubits, maxRows};
+ghost use Rattle.encoding.specs.Refusals.{fault};
+ghost use Rattle.terms.specs.Refused.{imulTests, reduceTests};
+ghost use Rattle.terms.specs.Work.{Sound, BothIn, ListsIn};
+ghost use Rattle.terms.specs.Calls.{Multiplies, Leaves, outcomeOf, Reduces, wholeOutcome, ReducesAll, upTo};
+use encoding::Answer;
+use encoding::MAX_ROWS;
+use pauli::RowNumber;
+
+pub mod lists;
+mod reduce;
+pub mod rows;
+
+// The columns of the longest row: X and Z of each qubit.
+const MAX_COLUMNS: usize = 2048;
+
+// What a reduction answers: done, with the number of log entries and of pivots; full (refusal 8), with the log's capacity; refused, with its number.
+pub enum Canonicalized {
+    Done { entries: usize, t: usize },
+    Full(usize),
+    Refused(u8),
+}
+
+// The first number of the table that fits a set and two row numbers, or 0.
+fn imul_fault(n: usize, x: &[u64], z: &[u64], phases: &[u8], a: usize, b: usize) -> u8
+    ensures { λ r. ⌜ r ≡ fault (imulTests n (mem (now (x .entry)) (now (z .entry)) (now (phases .entry))) a b) ⌝ }
+    ensures both { λ r. ⌜ (r ≡ 0 → BothIn n a b (mem (now (x .entry)) (now (z .entry)) (now (phases .entry)))) ⌝ }
+{
+    let m = phases.len();
+    let large = (m <= a) | (m <= b);
+    let f = encoding::set_fault(n, x, z, phases);
+    encoding::smaller(f, encoding::pick(large, 6, 0))
+}
+
+// Row a of the set is multiplied by row b, in place.
+pub fn imul(
+    n: usize,
+    x: &mut [u64],
+    z: &mut [u64],
+    phases: &mut [u8],
+    a: RowNumber,
+    b: RowNumber,
+) -> Answer
+    ensures { λ r. ⌜ Multiplies n (a .0) (b .0) (mem (now (x .entry)) (now (z .entry)) (now (phases .entry))) (mem (now (x .exit)) (now (z .exit)) (now (phases .exit))) r ⌝ }
+{
+    let f = imul_fault(n, x, z, phases, a.0, b.0);
+    if f != 0 {
+        return Answer::Refused(f);
+    }
+    rows::imul_unchecked(n, x, z, phases, a, b);
+    Answer::Done
+}
+
+// The first number of the table that fits a set, an order and two lists, or 0.
+fn reduce_fault(
+    n: usize,
+    x: &[u64],
+    z: &[u64],
+    phases: &[u8],
+    order: &[u16],
+    listed: &[u16],
+    extra: &[u16],
+) -> u8
+    ensures { λ r. ⌜ r ≡ fault (reduceTests n (mem (now (x .entry)) (now (z .entry)) (now (phases .entry))) (now (order .entry)) (now (listed .entry)) (now (extra .entry))) ⌝ }
+    ensures all { λ r. ⌜ (r ≡ 0 → ListsIn n (now (order .entry)) (now (listed .entry)) (now (extra .entry)) (mem (now (x .entry)) (now (z .entry)) (now (phases .entry)))) ⌝ }
+{
+    let f = encoding::set_fault(n, x, z, phases);
+    encoding::smaller(f, lists::lists_fault(n, phases.len(), order, listed, extra))
+}
+
+// The reduction of a set that the refusals passed.
+fn reduced(
+    n: usize,
+    x: &mut [u64],
+    z: &mut [u64],
+    phases: &mut [u8],
+    order: &[u16],
+    listed: &[u16],
+    extra: &[u16],
+    log: &mut [u16],
+) -> Canonicalized
+    requires { ⌜ ListsIn n (now order) (now listed) (now extra) (mem (now x) (now z) (now phases)) ⌝ }
+    ensures { λ r. ⌜ Leaves n 0 (outcomeOf n (now (order .entry)) (now (listed .entry)) (now (extra .entry)) (mem (now (x .entry)) (now (z .entry)) (now (phases .entry))) (now (log .entry)))
+        (mem (now (x .entry)) (now (z .entry)) (now (phases .entry))) (now (log .entry)) (mem (now (x .exit)) (now (z .exit)) (now (phases .exit))) (now (log .exit)) r ⌝ }
+{
+    let s = reduce::columns(n, x, z, phases, log, order, listed, extra);
+    if s.full {
+        return Canonicalized::Full(log.len() / 2);
+    }
+    let entries = s.entries;
+    let t = s.t;
+    Canonicalized::Done { entries, t }
+}
+
+// The set is reduced by the order of columns: pivots are found among the listed rows, and these and the extra rows are cleared. Each product is logged.
+pub fn canonicalize(
+    n: usize,
+    x: &mut [u64],
+    z: &mut [u64],
+    phases: &mut [u8],
+    order: &[u16],
+    listed: &[u16],
+    extra: &[u16],
+    log: &mut [u16],
+) -> Canonicalized
+    ensures { λ r. ⌜ Reduces n (now (order .entry)) (now (listed .entry)) (now (extra .entry)) (mem (now (x .entry)) (now (z .entry)) (now (phases .entry))) (now (log .entry)) (mem (now (x .exit)) (now (z .exit)) (now (phases .exit))) (now (log .exit)) r ⌝ }
+{
+    let f = reduce_fault(n, x, z, phases, order, listed, extra);
+    if f != 0 {
+        return Canonicalized::Refused(f);
+    }
+    reduced(n, x, z, phases, order, listed, extra, log)
+}
+
+// The numbers from 0 on.
+fn count_up(list: &mut [u16])
+    requires { ⌜ length (now list) ≤ 65536 ⌝ }
+    ensures { λ _. ⌜ now (list .exit) ≡ upTo (length (now (list .entry))) ⌝ }
+{
+    let m = list.len();
+    let mut i = 0;
+    while i < m {
+        list[i] = i as u16;
+        i += 1;
+    }
+}
+
+// All columns and all rows, from lists of the numbers up to the limits.
+fn reduced_by(
+    n: usize,
+    x: &mut [u64],
+    z: &mut [u64],
+    phases: &mut [u8],
+    columns: &[u16],
+    rows: &[u16],
+    log: &mut [u16],
+) -> Canonicalized
+    requires { ⌜ Sound n (mem (now x) (now z) (now phases)) ⌝ }
+    requires { ⌜ (now columns ≡ upTo (maxQubits + maxQubits)) × (now rows ≡ upTo maxRows) ⌝ }
+    ensures { λ r. ⌜ Leaves n 0 (wholeOutcome n (mem (now (x .entry)) (now (z .entry)) (now (phases .entry))) (now (log .entry)))
+        (mem (now (x .entry)) (now (z .entry)) (now (phases .entry))) (now (log .entry)) (mem (now (x .exit)) (now (z .exit)) (now (phases .exit))) (now (log .exit)) r ⌝ }
+{
+    let k = n + n;
+    let m = phases.len();
+    reduced(
+        n,
+        x,
+        z,
+        phases,
+        &columns[0..k],
+        &rows[0..m],
+        &rows[0..0],
+        log,
+    )
+}
+
+// All columns, all rows listed, no extra rows.
+fn reduced_all(
+    n: usize,
+    x: &mut [u64],
+    z: &mut [u64],
+    phases: &mut [u8],
+    log: &mut [u16],
+) -> Canonicalized
+    requires { ⌜ Sound n (mem (now x) (now z) (now phases)) ⌝ }
+    ensures { λ r. ⌜ Leaves n 0 (wholeOutcome n (mem (now (x .entry)) (now (z .entry)) (now (phases .entry))) (now (log .entry)))
+        (mem (now (x .entry)) (now (z .entry)) (now (phases .entry))) (now (log .entry)) (mem (now (x .exit)) (now (z .exit)) (now (phases .exit))) (now (log .exit)) r ⌝ }
+{
+    let mut columns = [0u16; MAX_COLUMNS];
+    count_up(&mut columns);
+    let mut rows = [0u16; MAX_ROWS];
+    count_up(&mut rows);
+    reduced_by(n, x, z, phases, &columns, &rows, log)
+}
+
+// The whole set is reduced: X of each qubit, then Z, over all rows.
+pub fn canonicalize_all(
+    n: usize,
+    x: &mut [u64],
+    z: &mut [u64],
+    phases: &mut [u8],
+    log: &mut [u16],
+) -> Canonicalized
+    ensures { λ r. ⌜ ReducesAll n (mem (now (x .entry)) (now (z .entry)) (now (phases .entry))) (now (log .entry)) (mem (now (x .exit)) (now (z .exit)) (now (phases .exit))) (now (log .exit)) r ⌝ }
+{
+    let f = encoding::set_fault(n, x, z, phases);
+    if f != 0 {
+        return Canonicalized::Refused(f);
+    }
+    reduced_all(n, x, z, phases, log)
+}

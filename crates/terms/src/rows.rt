@@ -1,0 +1,94 @@
+// The leaves that the reducer and the checker share: a column of a row, the first listed row with it set.
+ghost use mathlib.Core.Path.{_≡_};
+ghost use Prim.Native.Nat.{_+_, _/_, _%_, _<_, _≤_};
+ghost use lib.ListN.{drop};
+ghost use Rattle.encoding.specs.Limits.{maxRows, maxWords};
+ghost use Rattle.encoding.specs.Words.{bitAt};
+ghost use Rattle.encoding.specs.Set.{row, mem};
+ghost use Rattle.terms.specs.Leaves.{bitIn, firstPlace, mulIn, InRows, RowsMultiplied};
+use encoding::MAX_QUBITS;
+use encoding::MAX_ROWS;
+use pauli::RowNumber;
+
+// Bit q of row k of words that lie w to a row.
+fn row_bit(x: &[u64], w: usize, k: usize, q: usize) -> bool
+    requires { ⌜ (k < maxRows) × (w ≤ maxWords) ⌝ }
+    ensures { λ r. ⌜ r ≡ bitAt (row w k (now (x .entry))) (q / 64) (q % 64) ⌝ }
+{
+    if w <= q / 64 {
+        return false;
+    }
+    encoding::bit_in(x, k * w * 64 + q)
+}
+
+// Whether column c of row k is set: X of qubit c, or from n on Z of qubit c - n. Past the limits no bit is.
+pub fn get_bit(n: usize, x: &[u64], z: &[u64], k: RowNumber, c: usize) -> bool
+    ensures { λ r. ⌜ r ≡ bitIn n (now (x .entry)) (now (z .entry)) (k .0) c ⌝ }
+{
+    if MAX_QUBITS < n {
+        return false;
+    }
+    if MAX_ROWS <= k.0 {
+        return false;
+    }
+    let w = encoding::words(n);
+    if c < n {
+        return row_bit(x, w, k.0, c);
+    }
+    row_bit(z, w, k.0, c - n)
+}
+
+// The first place of the list, from t on, of a row with column c set; the end of the list if there is none.
+pub fn find(n: usize, x: &[u64], z: &[u64], listed: &[u16], t: usize, c: usize) -> usize
+    ensures { λ r. ⌜ r ≡ t + firstPlace (λ k. bitIn n (now (x .entry)) (now (z .entry)) k c) (drop t (now (listed .entry))) ⌝ }
+{
+    let mut i = t;
+    while i < listed.len() {
+        let k = listed[i] as usize;
+        if get_bit(n, x, z, RowNumber(k), c) {
+            return i;
+        }
+        i += 1;
+    }
+    i
+}
+
+// The sum of three exponents of i.
+fn add_signs(a: u8, b: u8, e: u8) -> u8
+    ensures { λ r. ⌜ r ≡ (a + b + e) % 4 ⌝ }
+{
+    ((a as u16 + b as u16 + e as u16) % 4) as u8
+}
+
+// Row a is multiplied by row b; a and b may be the same.
+fn mul_rows(w: usize, x: &mut [u64], z: &mut [u64], p: &mut [u8], a: usize, b: usize)
+    requires { ⌜ InRows w a b (mem (now x) (now z) (now p)) ⌝ }
+    ensures { λ _. ⌜ RowsMultiplied w a b (mem (now (x .entry)) (now (z .entry)) (now (p .entry))) (mem (now (x .exit)) (now (z .exit)) (now (p .exit))) ⌝ }
+{
+    let e = products::imul_op_op(x, z, a * w, b * w, w);
+    p[a] = add_signs(p[a], p[b], e.0);
+}
+
+// Row a of a set is multiplied by row b in place, with its phase byte. Where lengths do not fit or a row is not there, nothing is done.
+pub fn imul_unchecked(
+    n: usize,
+    x: &mut [u64],
+    z: &mut [u64],
+    p: &mut [u8],
+    a: RowNumber,
+    b: RowNumber,
+)
+    ensures { λ _. ⌜ mem (now (x .exit)) (now (z .exit)) (now (p .exit)) ≡ mulIn n (a .0) (b .0) (mem (now (x .entry)) (now (z .entry)) (now (p .entry))) ⌝ }
+{
+    let m = p.len();
+    if encoding::out_fault(n, m, x, z, p) != 0 {
+        return;
+    }
+    if m <= a.0 {
+        return;
+    }
+    if m <= b.0 {
+        return;
+    }
+    mul_rows(encoding::words(n), x, z, p, a.0, b.0);
+}
