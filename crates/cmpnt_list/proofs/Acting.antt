@@ -1,8 +1,8 @@
 -- A row on a lent basis state: what the leaf leaves in the state's words, said of the row and the state. Assumes nothing.
 use mathlib.Core.Path.{_≡_, refl, sym, ap, ap₂, _∙_, subst}
-use mathlib.Core.Bool.{Bool, true, false, not}
-use mathlib.Core.List.{List, [], _∷_}
-use Prim.Native.Nat.{ℕ, _+_, _%_, _≤_, _<_, min}
+use mathlib.Core.Bool.{Bool, false, not}
+use mathlib.Core.List.{List, []}
+use Prim.Native.Nat.{ℕ, _%_, _<_}
 use native.Mathlib.Decide.{decLt}
 use native.Mathlib.Omega.{arith}
 use borrow.Author.Tests.{eqb-true, not-false}
@@ -10,7 +10,6 @@ use lib.Dec.{eqb}
 use lib.ListN.{length, getD, take, drop, List·getD-eq-default}
 use Rattle.pauli.specs.Pauli.{Pauli, turn, turnPhase, act, actPhase}
 use Rattle.pauli.specs.declared.PauliMatrix.the-variants.{I}
-use Rattle.pauli.specs.Row.{Row}
 use Rattle.pauli.proofs.Lists.{each-take}
 use Rattle.encoding.specs.Limits.{wordsOf}
 use Rattle.encoding.specs.Words.{unpack, unbits, pack}
@@ -20,7 +19,6 @@ use Rattle.encoding.proofs.Faults.{pass}
 use Rattle.encoding.proofs.Scan.{some-none}
 use Rattle.encoding.proofs.Memory.{x-row, z-row, clean}
 use Rattle.products.specs.Leaves.{Acted, RowAction, shortest₃}
-use Rattle.cmpnt_list.specs.Calls.{stateOf, layState}
 use Rattle.cmpnt_list.specs.Workers.{Ready, RowAt, StateActed}
 use Rattle.cmpnt_list.proofs.Cutting.{Only, pack-cut, each-only, total-take}
 use Rattle.cmpnt_list.proofs.Views.{inWords, first-n, part-is}

@@ -2,12 +2,10 @@
 use mathlib.Core.Path.{_≡_, refl, sym, ap, ap₂, _∙_, subst}
 use mathlib.Core.Bool.{Bool, true, false, cond}
 use mathlib.Core.List.{List, [], _∷_, _++_}
-use Prim.Native.Nat.{ℕ, zero, suc, _+_, _-_, _*_, _/_, _^_, _≤_, _<_, zero-le}
+use Prim.Native.Nat.{ℕ, zero, suc, _+_, _*_, _/_, _^_, _≤_, _<_, zero-le}
 use native.Mathlib.Nat.{zero-add}
 use native.Mathlib.Numerals.{add-one}
 use native.Mathlib.Omega.{arith}
-use lib.Bits.{bitAnd, bitOr}
-use lib.Count.{ones}
 use lib.Dec.{T, eqb, leb, eqb→eq, leb→le}
 use lib.Pow.{pow-pos}
 use lib.ListN.{length, getD, take, drop}
@@ -18,7 +16,7 @@ use Rattle.pauli.specs.Row.{Row, eqP}
 use Rattle.pauli.specs.Rows.{holding, countOf}
 use Rattle.pauli.proofs.Every.{everyP, atP}
 use Rattle.encoding.specs.Words.{odd, bit, word, unpack}
-use Rattle.encoding.specs.Set.{part, row, Mem, count, rowsIn, Valid}
+use Rattle.encoding.specs.Set.{part, Mem, count, rowsIn, Valid}
 use Rattle.encoding.proofs.Padding.{AllI}
 use Rattle.encoding.proofs.Memory.{clean, row-count}
 use Rattle.products.proofs.Masks.{Mask, var, inv, both, either, Below, counted, place, places, everyL, counts}

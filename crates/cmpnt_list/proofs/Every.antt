@@ -1,7 +1,7 @@
 -- A test at each number below m, made one after the other. Assumes nothing.
 use mathlib.Core.Path.{_≡_, refl, sym, ap, ap₂, _∙_}
 use mathlib.Core.Bool.{Bool, true, false, _&&_, false≢true}
-use Prim.Native.Nat.{ℕ, suc, _+_, _<_}
+use Prim.Native.Nat.{ℕ, _+_, _<_}
 use native.Mathlib.Numerals.{add-one}
 use Rattle.pauli.specs.Rows.{everyBelow}
 use Rattle.pauli.proofs.Every.{every-at}

@@ -7,3 +7,7 @@ pub mod Every
 pub mod Filling
 pub mod Pairing
 pub mod Acting
+pub mod BitsBack
+pub mod Passed
+pub mod Meaning
+pub mod Determined

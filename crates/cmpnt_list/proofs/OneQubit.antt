@@ -1,31 +1,30 @@
 -- One qubit of one row was set: the memory is the one laid from the rows with that qubit set. Assumes nothing.
-use mathlib.Core.Path.{_≡_, refl, sym, ap, ap₂, _∙_, subst}
-use mathlib.Core.Bool.{Bool, true, false, cond}
-use mathlib.Core.List.{List, []}
-use Prim.Native.Nat.{ℕ, zero, suc, _+_, _-_, _*_, _/_, _≤_, _<_}
-use native.Mathlib.Decide.{decLt, ℕ-discrete}
+use mathlib.Core.Path.{_≡_, refl, sym, ap, _∙_, subst}
+use mathlib.Core.Bool.{Bool, cond}
+use mathlib.Core.List.{List}
+use Prim.Native.Nat.{ℕ, _+_, _-_, _*_, _/_, _≤_, _<_}
+use native.Mathlib.Decide.{ℕ-discrete}
 use native.Mathlib.Omega.{arith}
 use borrow.Author.Tests.{eq-eqb, ne-eqb}
 use borrow.Rule.Slice.PartMut.{putMid}
-use lib.Dec.{eqb}
-use lib.ListN.{length, getD, take, drop, set, length-set}
+use lib.ListN.{length, getD, set, length-set}
 use lib.Seq.{ext-getD, getD-take, getD-drop, getD-set-same, getD-set-other}
 use Rattle.pauli.specs.Pauli.{Pauli, hasX, hasZ}
 use Rattle.pauli.specs.declared.PauliMatrix.the-variants.{I}
 use Rattle.pauli.specs.Row.{Row}
 use Rattle.pauli.specs.Rows.{withQubit}
 use Rattle.encoding.specs.Words.{unpack, qubits, pack}
-use Rattle.encoding.specs.Set.{part, row, Mem, mem, count, rowsIn, layIn, QubitSet, Packed, Valid}
+use Rattle.encoding.specs.Set.{part, row, Mem, mem, count, rowsIn, layIn, QubitSet, Valid}
 use Rattle.encoding.proofs.WordLaws.{Fit}
 use Rattle.encoding.proofs.Padding.{Clean}
 use Rattle.encoding.proofs.Qubits.{read-back, others-same}
 use Rattle.encoding.proofs.Reading.{length-qubits}
 use Rattle.encoding.proofs.Parts.{fit-part}
-use Rattle.encoding.proofs.Memory.{packed-of, clean, x-row, z-row, row-count}
+use Rattle.encoding.proofs.Memory.{packed-of, clean, x-row, z-row}
 use Rattle.products.specs.Leaves.{Outside}
 use Rattle.products.proofs.PartLaws.{row-other}
 use Rattle.cmpnt_list.specs.Workers.{RowAt}
-use Rattle.cmpnt_list.proofs.Views.{part-is, put-row, put-rest, Holds, laid-by}
+use Rattle.cmpnt_list.proofs.Views.{part-is, put-row, put-rest, laid-by}
 
 -- ---- a row's two parts: n qubits in w words each
 
@@ -73,11 +72,11 @@ module _ (n w q : ℕ) (p : Pauli) {X Z px pz : List ℕ} (wide : n ≤ w * 64) 
 
 -- ---- the set
 
-with-here : (σ : ℕ → Row) (r q : ℕ) (p : Pauli) (k : ℕ) → k ≡ r → withQubit σ r q p k ≡ record { ps = set (σ r .ps) q p; p = σ r .p }
+pub with-here : (σ : ℕ → Row) (r q : ℕ) (p : Pauli) (k : ℕ) → k ≡ r → withQubit σ r q p k ≡ record { ps = set (σ r .ps) q p; p = σ r .p }
 unfolding withQubit
 with-here σ r q p k e = ap (λ (b : Bool). cond b (record { ps = set (σ r .ps) q p; p = σ r .p }) (σ k)) (eq-eqb k r e)
 
-with-other : (σ : ℕ → Row) (r q : ℕ) (p : Pauli) (k : ℕ) → (k ≡ r → ⊥) → withQubit σ r q p k ≡ σ k
+pub with-other : (σ : ℕ → Row) (r q : ℕ) (p : Pauli) (k : ℕ) → (k ≡ r → ⊥) → withQubit σ r q p k ≡ σ k
 unfolding withQubit
 with-other σ r q p k ne = ap (λ (b : Bool). cond b (record { ps = set (σ r .ps) q p; p = σ r .p }) (σ k)) (ne-eqb k r ne)
 

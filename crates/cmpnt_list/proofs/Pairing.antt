@@ -1,7 +1,7 @@
 -- The pairwise product, row by row: what the row leaf leaves in the parts that it is lent, said of the sets' rows. Assumes nothing.
 use mathlib.Core.Path.{_≡_, refl, sym, ap, ap₂, _∙_, subst}
 use mathlib.Core.List.{List}
-use Prim.Native.Nat.{ℕ, _+_, _-_, _*_, _%_, _≤_, _<_, min}
+use Prim.Native.Nat.{ℕ, _+_, _-_, _*_, _%_, _≤_, _<_}
 use native.Mathlib.Nat.{ne-of-lt, not-suc-le-zero}
 use native.Mathlib.Omega.{arith}
 use borrow.Author.Count.{below-more}
@@ -9,7 +9,6 @@ use borrow.Rule.Slice.PartMut.{putMid}
 use lib.ListN.{length, getD, set, length-set}
 use lib.Seq.{take-all, getD-set-same, getD-set-other}
 use Rattle.pauli.specs.Pauli.{Pauli, hasX, hasZ, mul, phases}
-use Rattle.pauli.specs.Row.{Row}
 use Rattle.pauli.specs.Rows.{pairRow}
 use Rattle.encoding.specs.Limits.{wordsOf}
 use Rattle.encoding.specs.Words.{unpack, pack}

@@ -1,7 +1,7 @@
 -- From the tests of a call to its answer, and to what its worker may ask. Assumes nothing.
-use mathlib.Core.Path.{_≡_, refl, sym, ap, ap₂, _∙_, subst}
+use mathlib.Core.Path.{_≡_, refl, sym, ap, ap₂, _∙_}
 use mathlib.Core.Bool.{Bool, true, false, cond, not, _||_}
-use mathlib.Core.List.{List, [], _∷_}
+use mathlib.Core.List.{List, []}
 use Prim.Native.Nat.{ℕ, zero, suc, _*_, _≤_, _<_}
 use native.Mathlib.Nat.{suc-ne-zero}
 use borrow.Author.Tests.{leb-false, lt-ltb, le-ltb, eqb-true, not-false}
@@ -11,9 +11,10 @@ use Rattle.encoding.specs.Limits.{maxRows, wordsOf}
 use Rattle.encoding.specs.Set.{Mem, count, Valid}
 use Rattle.encoding.specs.Refusals.{faultFrom, fault, joined, least, manyQubits, manyRows, badLengths, setTests, outTests, numberTests}
 use Rattle.encoding.proofs.Faults.{pass, joined-fault, least-none, lengths-fit}
-use Rattle.encoding.proofs.Memory.{within-limits}
+use Rattle.encoding.proofs.WordLaws.{Fit}
+use Rattle.encoding.proofs.Memory.{within-limits, valid-of}
 use Rattle.encoding.proofs.Scan.{none-of}
-use Rattle.cmpnt_list.specs.Calls.{readFault, matrixTests, differentRows}
+use Rattle.cmpnt_list.specs.Calls.{readFault, pairwiseFault, matrixTests, differentRows}
 use Rattle.cmpnt_list.specs.Workers.{Ready, Asked, AskedMatrix, BothReady, ThirdReady}
 
 -- ---- an answer by its number: where it is not 0 the refusal, where it is 0 what stands there
@@ -54,6 +55,16 @@ module _ (n : ℕ) (M : Mem) (large : Bool) {f a b : ℕ} (ea : a ≡ fault (set
   read-asked v z =
       let p = least-none a b (sym ef ∙ z) in
       record { ready = ready-of n M ea v (p .0); small = not-large 5 large (sym eb ∙ p .1) }
+
+-- the same from the number alone, where the words are of 64 bits
+pub record Words64 (M : Mem) : Type 0 where
+  pub x-fit : Fit (M .xs)
+  pub z-fit : Fit (M .zs)
+
+pub asked-of : (n : ℕ) {M : Mem} → Words64 M → (large : Bool) → readFault n M large ≡ 0 → Asked n M large
+asked-of n {M} f large z =
+    let p = least-none (fault (setTests n M)) (fault (numberTests large)) (joined-fault (setTests n M) (numberTests large) ∙ z) in
+    record { ready = ready-of n M refl (valid-of n M (f .x-fit) (f .z-fit)) (p .0); small = not-large 5 large (number-is large ∙ p .1) }
 
 -- two numbers below their limits
 pub both-small : (m r n q : ℕ) → (leb m r || leb n q) ≡ false → (r < m) × (q < n)
@@ -106,3 +117,13 @@ third-ready n m k O {f} {a} {b} ea eb ef z =
       x-long = l .0 ∙ ap (λ (j : ℕ). j * w) e;
       z-long = l .1 ∙ ap (λ (j : ℕ). j * w) e;
     }
+
+pub pairwise-asked : (n : ℕ) {L R : Mem} (O : Mem) → Words64 L → Words64 R → pairwiseFault n L R O ≡ 0 → BothReady n L R × ThirdReady n (count L) (count R) O
+pairwise-asked n {L} {R} O f g z =
+    let ts = joined (setTests n L) (setTests n R) in
+    let us = joined (differentRows (count L) (count R)) (outTests n (count L) O) in
+    let p = least-none (fault ts) (fault us) (joined-fault ts us ∙ z) in (
+      both-ready n L R refl refl (sym (joined-fault (setTests n L) (setTests n R))) (valid-of n L (f .x-fit) (f .z-fit)) (valid-of n R (g .x-fit) (g .z-fit)) (p .0),
+      third-ready n (count L) (count R) O refl refl
+          (sym (joined-fault (differentRows (count L) (count R)) (outTests n (count L) O)) ∙ ap (λ (k : ℕ). least k (fault (outTests n (count L) O))) (sym (different-is (count L) (count R)))) (p .1),
+    )

@@ -2,21 +2,21 @@
 -- are zero; and words that hold given rows are those laid from them. Assumes nothing.
 use mathlib.Core.Path.{_≡_, refl, sym, ap, ap₂, _∙_, subst}
 use mathlib.Core.Bool.{Bool, false}
-use mathlib.Core.List.{List, [], _∷_}
-use Prim.Native.Nat.{ℕ, zero, suc, _+_, _-_, _*_, _%_, _≤_, _<_}
-use native.Mathlib.Nat.{mul-le-mul, add-sub-cancel-left}
+use mathlib.Core.List.{List}
+use Prim.Native.Nat.{ℕ, _+_, _-_, _*_, _%_, _≤_, _<_}
+use native.Mathlib.Nat.{mul-le-mul}
 use native.Mathlib.Omega.{arith}
 use borrow.Rule.Slice.PartMut.{putMid}
 use lib.Dec.{eqb}
-use lib.ListN.{length, getD, take, drop}
+use lib.ListN.{length, getD, take}
 use lib.Seq.{take-take, getD-take, ext-getD}
 use Rattle.pauli.specs.Pauli.{Pauli, hasX, hasZ, total, _·_, mul, phase, phases, clash, clashes}
 use Rattle.pauli.specs.declared.PauliMatrix.the-variants.{I}
 use Rattle.pauli.specs.Row.{Row, padMul}
 use Rattle.pauli.specs.Rows.{phaseOf, commute}
 use Rattle.encoding.specs.Limits.{maxQubits, maxRows, wordsOf}
-use Rattle.encoding.specs.Words.{unpack, qubits, pack, layRows}
-use Rattle.encoding.specs.Set.{part, row, Mem, mem, count, rowsIn, list, layIn, Valid}
+use Rattle.encoding.specs.Words.{unpack, pack, layRows}
+use Rattle.encoding.specs.Set.{part, row, Mem, count, rowsIn, list, layIn, Valid}
 use Rattle.encoding.proofs.Parts.{row-end, length-part, rows-ext, length-list, getD-list, row-lay-list, length-lay-list}
 use Rattle.encoding.proofs.Memory.{mem-eq, clean, row-count}
 use Rattle.pauli.proofs.Lists.{each-take}

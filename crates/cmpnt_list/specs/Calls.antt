@@ -1,7 +1,7 @@
 -- Document 01, "Products and actions" and "Refusal numbers", call by call over a row set: the tests that a call makes, what it answers, and what stands
 -- in each lent buffer when it returns. M is a set in memory and n its number of qubits; a refusal leaves every buffer as it was. Assumes nothing.
 use mathlib.Core.Path.{_≡_}
-use mathlib.Core.Bool.{Bool, true, false, not, _||_}
+use mathlib.Core.Bool.{Bool, false, not, _||_}
 use mathlib.Core.List.{List, [], _∷_}
 use Prim.Native.Nat.{ℕ, zero, suc, _*_}
 use lib.Dec.{eqb}
@@ -85,6 +85,7 @@ pub record SetQubit (n : ℕ) (M : Mem) (r q : ℕ) (p : Pauli) (M′ : Mem) (a 
 
 -- ---- compatibility_matrix: m rows of (m/64 rounded up) words, bit j of row i for rows i and j, spare bits zero
 
+-- 2: m above 256; 3: the lent words are not as many as the matrix has
 abbrev pub matrixTests : ℕ → ℕ → List Bool
 matrixTests m size = false ∷ manyRows m ∷ not (eqb size (m * wordsOf m)) ∷ []
 
@@ -105,6 +106,7 @@ pub record CompatibilityMatrix (n : ℕ) (M : Mem) (out out′ : List ℕ) (a : 
 
 -- ---- cmpnts_mul_pairwise: row i of the third set is left i times right i, its phase byte phase(left i, right i)
 
+-- 3: sets of different m
 abbrev pub differentRows : ℕ → ℕ → List Bool
 differentRows m m′ = false ∷ false ∷ not (eqb m′ m) ∷ []
 
@@ -120,6 +122,7 @@ pub record MulPairwise (n : ℕ) (L R O O′ : Mem) (a : Answer) : Type 0 where
 
 -- ---- imul_state: row r acts on a lent basis state of w words
 
+-- the state's length (3) and its bits at n and above (4) are tested with the set and the row number
 abbrev pub actionFault : ℕ → Mem → ℕ → List ℕ → ℕ
 actionFault n M r st = fault (joined (joined (setTests n M) (numberTests (tooLarge (count M) r))) (stateTests n st))
 

@@ -1,16 +1,13 @@
 // The calls over a row set. Each tests first, as the table of refusals says, and then works; what it answers and leaves stands in specs/Calls.antt.
 ghost use mathlib.Core.Path.{_≡_};
-ghost use mathlib.Core.Bool.{Bool, false, not, _||_};
-ghost use Prim.Native.Nat.{ℕ, _+_, _*_, _≤_, _<_};
+ghost use Prim.Native.Nat.{_+_, _*_, _≤_, _<_};
 ghost use lib.Count.{ones};
-ghost use lib.Dec.{eqb, leb};
 ghost use lib.ListN.{length, getD};
-ghost use Rattle.pauli.specs.Pauli.{Pauli};
 ghost use Rattle.pauli.specs.declared.PauliMatrix.the-variants.{I};
-ghost use Rattle.pauli.specs.Rows.{phaseOf, commute, central, countOf, pairRow, withQubit, actOn, actPhaseOn};
-ghost use Rattle.encoding.specs.Limits.{maxQubits, maxRows, wordsOf};
+ghost use Rattle.pauli.specs.Rows.{phaseOf, commute, central, countOf, withQubit};
+ghost use Rattle.encoding.specs.Limits.{maxQubits, maxRows, maxWords, wordsOf};
 ghost use Rattle.encoding.specs.Words.{word, unpack};
-ghost use Rattle.encoding.specs.Set.{mem, count, rowsOf, lay};
+ghost use Rattle.encoding.specs.Set.{mem, rowsOf, lay};
 ghost use Rattle.encoding.specs.Refusals.{fault, joined, setTests, outTests, stateTests};
 ghost use Rattle.products.specs.Leaves.{SameLength, ProductAt};
 ghost use Rattle.cmpnt_list.specs.Calls.{readFault, matrixTests, matrixFault, differentRows, laidMatrix, commuting, pairs, getQubit, SetQubit, countIn, phaseOfMul, commutesWith, belongsToCentralizer, CompatibilityMatrix, MulPairwise, ImulState};
@@ -164,7 +161,7 @@ fn count_word(x: u64, z: u64, p: PauliMatrix) -> u64
 
 // The same of a row.
 fn count_row(x: &[u64], z: &[u64], p: PauliMatrix) -> u64
-    requires { ⌜ (length (now x) ≤ maxQubits) × (length (now z) ≡ length (now x)) ⌝ }
+    requires { ⌜ (length (now x) ≤ maxWords) × (length (now z) ≡ length (now x)) ⌝ }
     ensures { λ r. ⌜ r ≡ masked p (unpack (now (x .entry)) (now (z .entry))) ⌝ }
 {
     let mut k: u64 = 0;

@@ -15,8 +15,7 @@ use lib.ListN.{length, getD, take}
 use Rattle.pauli.specs.Gauss.{Gauss, _⊕_, _⊗_, g0, g1, ipow}
 use Rattle.pauli.specs.Matrix.{matrix, sameState}
 use Rattle.pauli.specs.Pauli.{Pauli, ofBits, turnPhase, act, actPhase}
-use Rattle.pauli.proofs.GaussRing.{by-parts}
-use Rattle.pauli.proofs.Commute.{ipow-mod}
+use Rattle.pauli.proofs.GaussRing.{by-parts, ipow-mod}
 use Rattle.pauli.proofs.Vectors.{⊗-g0, ⊗-g1, column-is}
 use Rattle.encoding.specs.Words.{odd, bit, word, bits}
 use Rattle.encoding.specs.Refusals.{fault}

@@ -5,7 +5,6 @@ pub mod GaussRing
 pub mod Every
 pub mod Products
 pub mod Phases
-pub mod Commute
 pub mod RowLaws
 pub mod OnQubits
 pub mod Vectors

@@ -1,30 +1,27 @@
 -- The calls: from the first number that fits, and from what the workers leave, to the answer, the rows and the log. Assumes nothing.
-use Prim.Native.Nat.{ℕ, zero, suc, _+_, _-_, _*_, _/_, _<_, _≤_}
+use Prim.Native.Nat.{ℕ, zero, suc, _+_, _-_, _/_, _<_, _≤_}
 use native.Mathlib.Decide.{ℕ-discrete}
 use native.Mathlib.Omega.{arith}
 use mathlib.Core.Path.{_≡_, refl, sym, ap, ap₂, _∙_, subst}
 use mathlib.Core.Bool.{Bool, true, false, cond, _||_}
-use mathlib.Core.List.{List, [], _∷_}
+use mathlib.Core.List.{List, []}
 use lib.Arith.{lt-of-le-ne}
-use lib.ListN.{length, getD, take, drop, set}
+use lib.ListN.{length, getD, take, set}
 use lib.Seq.{length-take-le, ext-getD, getD-take, getD-set-same, getD-set-other}
 use borrow.Author.Tests.{leb-false}
 use Rattle.pauli.specs.Row.{Row, mulRow, bitRow}
 use Rattle.encoding.specs.Limits.{maxQubits, maxRows, wordsOf}
 use Rattle.encoding.specs.Set.{Mem, count, rowsOf, lay, Valid}
 use Rattle.encoding.specs.Refusals.{faultFrom, fault, least, tooLarge, setTests, numberTests, doneOr, leftOr}
-use Rattle.encoding.specs.declared.Answer.{Answer}
 use Rattle.encoding.specs.declared.Answer.the-variants as answer
 use Rattle.encoding.proofs.Scan.{none-of}
-use Rattle.encoding.proofs.Faults.{pass, joined-fault, least-none, refused, kept}
+use Rattle.encoding.proofs.Faults.{joined-fault, least-none, refused, kept}
 use Rattle.encoding.proofs.Memory.{within-limits, laid}
 use Rattle.encoding.proofs.Parts.{length-list, getD-list}
-use Rattle.reduction.specs.Lists.{In}
-use Rattle.reduction.specs.Rule.{Run, mulAt}
+use Rattle.reduction.specs.Rule.{mulAt}
 use Rattle.reduction.specs.Log.{pairs, logged, capacity}
 use Rattle.reduction.specs.Capacity.{Reduced, done, full, capped}
 use Rattle.reduction.specs.Twin.{through, columnC}
-use Rattle.reduction.specs.Demand.{Asked}
 use Rattle.reduction.proofs.Lists.{in-getD, in-left, in-right}
 use Rattle.reduction.proofs.Log.{length-pairs, logged-is}
 use Rattle.reduction.proofs.Stop.{stops-is-capped}
@@ -33,7 +30,7 @@ use Rattle.terms.specs.declared.Canonicalized.{Canonicalized}
 use Rattle.terms.specs.declared.Canonicalized.the-variants.{Done, Full, Refused}
 use Rattle.terms.specs.Refused.{listTests, reduceTests, imulTests}
 use Rattle.terms.specs.Leaves.{mulIn}
-use Rattle.terms.specs.Work.{Sound, Keeps, Below, runOf, outcome, start, Does, BothIn, ListsIn}
+use Rattle.terms.specs.Work.{Sound, Below, runOf, outcome, start, Does, BothIn, ListsIn}
 use Rattle.terms.specs.Calls.{Multiplies, answerOf, rowsLeft, entriesLeft, Leaves, outcomeOf, wholeOutcome, upTo}
 use Rattle.terms.proofs.Scans.{asked-of}
 use Rattle.terms.proofs.RowView.{mul-view}

@@ -1,18 +1,18 @@
 -- A column of a row in memory: one bit of one word. Assumes nothing.
 use mathlib.Core.Path.{_≡_, refl, sym, ap, ap₂, _∙_}
 use mathlib.Core.Bool.{Bool, true, false, cond, _&&_}
-use mathlib.Core.List.{List, [], _∷_}
-use Prim.Native.Nat.{ℕ, zero, suc, _+_, _-_, _*_, _/_, _%_, _^_, _≤_, _<_}
+use mathlib.Core.List.{List}
+use Prim.Native.Nat.{ℕ, suc, _+_, _-_, _*_, _/_, _%_, _^_, _≤_, _<_}
 use native.Mathlib.Nat.{mul-le-mul-right}
 use native.Mathlib.Omega.{arith}
 use native.Mathlib.Numerals.{add-one}
 use borrow.Author.Tests.{le-leb, lt-leb, lt-ltb, le-ltb}
 use lib.Dec.{leb, ltb}
-use lib.ListN.{length, getD, take, drop, length-take, drop-of-length-le}
+use lib.ListN.{length, getD, drop, length-take, drop-of-length-le}
 use lib.Seq.{drop-cons}
 use Rattle.encoding.specs.Limits.{maxQubits, maxRows, maxWords, wordsOf}
 use Rattle.encoding.specs.Words.{odd, bitAt}
-use Rattle.encoding.specs.Set.{part, row}
+use Rattle.encoding.specs.Set.{row}
 use Rattle.encoding.proofs.Parts.{getD-part}
 use Rattle.encoding.proofs.Qubits.{no-bit}
 use Rattle.terms.specs.Leaves.{columnOf, bitIn, firstPlace}

@@ -2,8 +2,8 @@
 use mathlib.Core.Path.{_≡_, refl, sym, ap, ap₂, _∙_, subst}
 use mathlib.Core.Logic.{_⊎_, inl, inr}
 use mathlib.Core.Bool.{Bool, true, false, cond, not, _&&_, _||_}
-use mathlib.Core.List.{List, [], _∷_, _++_}
-use Prim.Native.Nat.{ℕ, zero, suc, _+_, _-_, _*_, _/_, _%_, _≤_, _<_}
+use mathlib.Core.List.{List, [], _++_}
+use Prim.Native.Nat.{ℕ, _+_, _-_, _*_, _%_, _≤_, _<_}
 use native.Mathlib.Decide.{decLt, ℕ-discrete}
 use native.Mathlib.Nat.{add-sub-cancel-left}
 use native.Mathlib.Omega.{arith}
@@ -14,7 +14,7 @@ use lib.Dec.{eqb, ltb}
 use lib.ListN.{length, getD, take, drop, set}
 use lib.Seq.{drop-drop}
 use Rattle.pauli.specs.Pauli.{Pauli, hasX, hasZ, mul, phases}
-use Rattle.encoding.specs.Limits.{maxQubits, maxRows, maxWords, wordsOf}
+use Rattle.encoding.specs.Limits.{maxQubits, maxRows, wordsOf}
 use Rattle.encoding.specs.Words.{unpack, pack}
 use Rattle.encoding.specs.Set.{part, row, Mem, mem, count}
 use Rattle.encoding.specs.Refusals.{faultFrom, fault, manyQubits, manyRows, badLengths, outTests}
@@ -23,7 +23,7 @@ use Rattle.encoding.proofs.Faults.{pass, lengths-fit}
 use Rattle.encoding.proofs.Parts.{row-end, row-long}
 use Rattle.encoding.proofs.Memory.{mem-eq}
 use Rattle.encoding.proofs.Reading.{length-pack}
-use Rattle.products.specs.Leaves.{Outside, Product, Multiplied, inside, Room, ProductIn}
+use Rattle.products.specs.Leaves.{Outside, inside, ProductIn}
 use Rattle.products.proofs.InPlace.{inside-is}
 use Rattle.products.proofs.PartLaws.{part-put, outside-put}
 use Rattle.terms.specs.Leaves.{bothIn, putRow, mulIn, InRows, RowsMultiplied}

@@ -5,3 +5,6 @@ pub mod RowView
 pub mod Steps
 pub mod Pieces
 pub mod Answers
+pub mod Finished
+pub mod Whole
+pub mod Determined

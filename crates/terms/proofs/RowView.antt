@@ -1,14 +1,13 @@
 -- The leaves over a row set: a column is `bitRow`, the first place is that of `first`, a product in place is `mulAt`. Assumes nothing.
 use mathlib.Core.Path.{_≡_, refl, sym, ap, ap₂, _∙_, subst, fun-ext}
-use mathlib.Core.Logic.{_≢_}
 use mathlib.Core.Bool.{Bool, true, false, cond}
-use mathlib.Core.Option.{Option, none, some}
+use mathlib.Core.Option.{none, some}
 use mathlib.Core.List.{List, [], _∷_}
-use Prim.Native.Nat.{ℕ, zero, suc, _+_, _-_, _*_, _/_, _%_, _≤_, _<_}
+use Prim.Native.Nat.{ℕ, suc, _+_, _-_, _*_, _/_, _%_, _≤_, _<_}
 use native.Mathlib.Decide.{decLt, ℕ-discrete}
 use native.Mathlib.Omega.{arith}
-use borrow.Author.Tests.{eqb-true, eqb-false, eq-eqb, lt-ltb, le-ltb, le-leb}
-use lib.Dec.{eqb, ltb, leb}
+use borrow.Author.Tests.{eqb-true, eqb-false, lt-ltb, le-ltb}
+use lib.Dec.{eqb}
 use lib.ListN.{length, getD, take, drop, set, length-set, length-drop}
 use lib.Seq.{getD-take, getD-drop, take-take, getD-set-same, getD-set-other}
 use Rattle.pauli.specs.Pauli.{Pauli, _·_, mul, phases, ofBits, hasX, hasZ}
@@ -16,15 +15,14 @@ use Rattle.pauli.specs.declared.PauliMatrix.the-variants.{I}
 use Rattle.pauli.specs.Row.{Row, padMul, mulRow, bitOf, bitRow}
 use Rattle.pauli.proofs.Lists.{each-take, length-each}
 use Rattle.pauli.proofs.RowLaws.{row-eq, x-bit, z-bit, hasX-of, hasZ-of, pad-mul}
-use Rattle.encoding.specs.Limits.{maxQubits, maxRows, wordsOf}
+use Rattle.encoding.specs.Limits.{wordsOf}
 use Rattle.encoding.specs.Words.{bitAt, unpack, qubits, pack}
-use Rattle.encoding.specs.Set.{row, Mem, mem, count, rowsIn, rowsOf, layIn, lay, Packed, Valid}
-use Rattle.encoding.specs.Refusals.{faultFrom, fault, manyQubits, manyRows, badLengths, outTests}
+use Rattle.encoding.specs.Set.{row, Mem, mem, count, rowsIn, rowsOf, lay, Packed, Valid}
 use Rattle.encoding.proofs.Padding.{cut, pack-same, mul-drop, phases-take}
 use Rattle.encoding.proofs.Reading.{qubits-pack}
 use Rattle.encoding.proofs.Qubits.{qubit-at}
 use Rattle.encoding.proofs.Memory.{mem-eq, x-row, z-row, row-count, clean, laid}
-use Rattle.products.specs.Leaves.{Product, Multiplied}
+use Rattle.products.specs.Leaves.{Multiplied}
 use Rattle.products.proofs.PartLaws.{row-other}
 use Rattle.reduction.specs.Rule.{mulAt, first}
 use Rattle.reduction.proofs.Cases.{cond-ind}

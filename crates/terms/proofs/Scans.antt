@@ -1,21 +1,21 @@
 -- Scans of an order and of lists: a number too large, a number there twice; and that nothing refused is what the theorems ask. Assumes nothing.
 use mathlib.Core.Path.{_≡_, refl, sym, ap, ap₂, _∙_, subst}
-use mathlib.Core.Logic.{_⊎_, inl, inr, ⊎-elim}
-use mathlib.Core.Bool.{Bool, true, false, cond, not, _&&_, _||_, false≢true}
-use mathlib.Core.List.{List, [], _∷_, _++_}
-use Prim.Native.Nat.{ℕ, zero, suc, _+_, _-_, _≤_, _<_}
+use mathlib.Core.Logic.{⊎-elim}
+use mathlib.Core.Bool.{Bool, true, false, cond, not, _&&_, _||_}
+use mathlib.Core.List.{List, [], _∷_}
+use Prim.Native.Nat.{ℕ, _+_, _-_, _≤_, _<_}
 use native.Mathlib.Decide.{decLe}
 use native.Mathlib.Nat.{add-zero}
 use native.Mathlib.Numerals.{add-one}
 use native.Mathlib.Omega.{arith}
 use borrow.Author.Tests.{le-leb, lt-leb, leb-false, eq-eqb, ne-eqb, not-false}
-use lib.Dec.{eqb, leb}
+use lib.Dec.{leb}
 use lib.ListN.{length, getD, drop, drop-of-length-le}
 use lib.Seq.{drop-cons}
 use Rattle.encoding.specs.Refusals.{faultFrom, fault, some, tooLarge}
 use Rattle.encoding.proofs.Scan.{none-of, some-none}
 use Rattle.encoding.proofs.Faults.{pass}
-use Rattle.reduction.specs.Lists.{In, has, Distinct, distinct}
+use Rattle.reduction.specs.Lists.{In, has, distinct}
 use Rattle.reduction.specs.Demand.{Asked}
 use Rattle.reduction.proofs.Lists.{distinct→, most-below, place-of, in-either}
 use Rattle.terms.specs.Refused.{largeNumber, repeated, listTests}

@@ -1,24 +1,23 @@
 -- Pieces of a run in memory: nothing done, one entry, one piece after another, a loop over a list. Assumes nothing.
-use Prim.Native.Nat.{ℕ, zero, suc, _+_, _/_, _<_, _≤_}
+use Prim.Native.Nat.{ℕ, suc, _+_, _<_, _≤_}
 use native.Mathlib.Omega.{arith}
 use native.Mathlib.Numerals.{add-one}
 use mathlib.Core.Path.{_≡_, refl, sym, ap, _∙_, subst}
-use mathlib.Core.Bool.{Bool, true, false, cond}
+use mathlib.Core.Bool.{true, false, cond}
 use mathlib.Core.List.{List, [], _∷_, _++_, append-assoc}
-use lib.Dec.{ltb}
 use lib.ListN.{length, getD, take, drop, set, length-set}
 use lib.Seq.{take-suc-set, length-take-le, getD-set-other, drop-cons, drop-length}
 use borrow.Author.Tests.{lt-ltb, le-ltb}
 use Rattle.pauli.specs.Row.{Row, mulRow}
 use Rattle.encoding.specs.Set.{Mem, count, rowsOf}
-use Rattle.reduction.specs.Rule.{Entry, entry, Run, mulAt, multiply}
+use Rattle.reduction.specs.Rule.{Entry, Run, mulAt, multiply}
 use Rattle.reduction.specs.Log.{pairs, capacity}
 use Rattle.reduction.specs.Capacity.{Reduced, done, full}
 use Rattle.reduction.specs.Twin.{andThen, through, multiplyC}
 use Rattle.reduction.proofs.Log.{length-pairs, pairs-more}
 use Rattle.terms.specs.declared.reduce.Progress.{Progress}
 use Rattle.terms.specs.Leaves.{mulIn}
-use Rattle.terms.specs.Work.{Sound, Keeps, Ready, runOf, outcome, resultOf, Does}
+use Rattle.terms.specs.Work.{Sound, Keeps, Ready, runOf, outcome, Does}
 use Rattle.terms.proofs.RowView.{Held, mul-view}
 
 -- ---- memory

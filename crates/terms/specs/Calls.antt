@@ -1,5 +1,5 @@
--- Document 01, "imul", "The reduction rule" and refusal 8: what the three calls answer, and what they leave in rows, phase bytes and log. A refusal
--- leaves all as it was. Assumes nothing.
+-- Document 01, "In place, row a by row b of the same set", "The reduction rule" and refusal 8: what the three calls answer, and what they leave in rows,
+-- phase bytes and log. f is the first number of the table that fits, 0 for none; a refusal leaves all as it was. Assumes nothing.
 use Prim.Native.Nat.{ℕ, zero, suc, _+_}
 use mathlib.Core.Path.{_≡_}
 use mathlib.Core.List.{List, []}

@@ -1,9 +1,9 @@
 -- What the leaves give that reducer and checker share: a column of a row, the first place with it set, a row multiplied by another. They take any
 -- input; of a row set, proofs/RowView.antt says that they are `bitRow`, `first` and `mulAt`. Assumes nothing.
 use mathlib.Core.Path.{_≡_}
-use mathlib.Core.Bool.{Bool, true, false, cond, _&&_}
+use mathlib.Core.Bool.{Bool, cond, _&&_}
 use mathlib.Core.List.{List, [], _∷_, _++_}
-use Prim.Native.Nat.{ℕ, zero, suc, _+_, _-_, _*_, _/_, _%_, _≤_, _<_}
+use Prim.Native.Nat.{ℕ, suc, _+_, _-_, _*_, _/_, _%_, _≤_, _<_}
 use lib.Dec.{eqb, leb, ltb}
 use lib.ListN.{length, getD, take, drop, set}
 use Rattle.pauli.specs.Pauli.{hasX, hasZ, mul, phases}

@@ -1,15 +1,8 @@
-use Rattle.cmpnt_list.proofs.Acting.{state-acted}
-use native.Mathlib.Omega.{arith}
-use mathlib.Core.Path.{_≡_, refl, sym, ap, _∙_}
-use Prim.Native.Nat.{ℕ, _+_, _*_, _-_, _/_, _<_, _≤_}
-use lib.ListN.{length, getD, drop, take, length-set}
+-- `cmpnt_list::act_on` meets its contract. Assumes nothing.
 use borrow.Author.Needs.{needs}
+use Rattle.cmpnt_list.proofs.Acting.{state-acted}
 use Rattle.cmpnt_list.proofs.act_on.Statement.{statement}
 use Rattle.cmpnt_list.proofs.act_on.Tie as tie
-use Rattle.cmpnt_list.proofs.act_on.Reads as reads
-use Rattle.cmpnt_list.proofs.act_on.Lts as lts
-use Rattle.cmpnt_list.proofs.row_span.Reads as row-span-reads
-use Rattle.products.proofs.imul_op_state.Reads as imul-op-state-reads
 
 row-span-requires : tie.Need-row-span-requires
 row-span-requires c κs = search needs

@@ -1,20 +1,16 @@
+-- `cmpnt_list::belongs_to_centralizer` meets its contract. Assumes nothing.
+use mathlib.Core.Path.{refl, ap, _∙_}
+use Prim.Native.Nat.{ℕ}
 use borrow.Author.Tests.{leb-false}
+use borrow.Author.Needs.{needs}
+use lib.ListN.{length}
 use Rattle.pauli.specs.Rows.{central}
+use Rattle.encoding.specs.Set.{mem, rowsOf, count}
 use Rattle.cmpnt_list.specs.Calls.{belongsToCentralizer, truthOr}
 use Rattle.cmpnt_list.specs.declared.Truth.the-variants as truth
-use Rattle.encoding.specs.Set.{mem, rowsOf, count, lay}
 use Rattle.cmpnt_list.proofs.Tests.{refusing, passing}
-use native.Mathlib.Omega.{arith}
-use mathlib.Core.Path.{_≡_, refl, sym, ap, _∙_}
-use Prim.Native.Nat.{ℕ, _+_, _*_, _-_, _/_, _<_, _≤_}
-use lib.ListN.{length, getD, drop, take, length-set}
-use borrow.Author.Needs.{needs}
 use Rattle.cmpnt_list.proofs.belongs_to_centralizer.Statement.{statement}
 use Rattle.cmpnt_list.proofs.belongs_to_centralizer.Tie as tie
-use Rattle.cmpnt_list.proofs.belongs_to_centralizer.Reads as reads
-use Rattle.cmpnt_list.proofs.belongs_to_centralizer.Lts as lts
-use Rattle.cmpnt_list.proofs.central_row.Reads as central-row-reads
-use Rattle.cmpnt_list.proofs.row_fault.Reads as row-fault-reads
 
 row-fault-requires : tie.Need-row-fault-requires
 row-fault-requires c κs = search needs

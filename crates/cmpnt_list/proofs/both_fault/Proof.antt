@@ -1,17 +1,10 @@
-use Rattle.encoding.specs.Refusals.{setTests}
-use Rattle.encoding.specs.Set.{mem, rowsOf, count, lay}
-use Rattle.cmpnt_list.proofs.Tests.{both-parts, both-ready}
-use native.Mathlib.Omega.{arith}
-use mathlib.Core.Path.{_≡_, refl, sym, ap, _∙_}
-use Prim.Native.Nat.{ℕ, _+_, _*_, _-_, _/_, _<_, _≤_}
-use lib.ListN.{length, getD, drop, take, length-set}
+-- `cmpnt_list::both_fault` meets its contract. Assumes nothing.
 use borrow.Author.Needs.{needs}
+use Rattle.encoding.specs.Refusals.{setTests}
+use Rattle.encoding.specs.Set.{mem}
+use Rattle.cmpnt_list.proofs.Tests.{both-parts, both-ready}
 use Rattle.cmpnt_list.proofs.both_fault.Statement.{statement}
 use Rattle.cmpnt_list.proofs.both_fault.Tie as tie
-use Rattle.cmpnt_list.proofs.both_fault.Reads as reads
-use Rattle.cmpnt_list.proofs.both_fault.Lts as lts
-use Rattle.encoding.proofs.set_fault.Reads as set-fault-reads
-use Rattle.encoding.proofs.smaller.Reads as smaller-reads
 
 set-fault-requires : tie.Need-set-fault-requires
 set-fault-requires c κs = search needs

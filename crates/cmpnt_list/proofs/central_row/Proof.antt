@@ -1,19 +1,16 @@
-use borrow.Author.Tests.{not-true, not-false}
-use Rattle.cmpnt_list.proofs.Every.{every-none, every-more, every-not}
-use mathlib.Core.Path.{subst}
-use mathlib.Core.Bool.{Bool, true, false}
-use Rattle.pauli.specs.Rows.{commute, everyBelow, central}
-use Rattle.encoding.specs.Set.{mem, rowsOf, count, lay}
-use borrow.Author.Needs.{needs}
+-- `cmpnt_list::central_row` meets its contract. Assumes nothing.
+use mathlib.Core.Path.{subst, _≡_, refl, sym, _∙_}
+use mathlib.Core.Bool.{Bool, true}
+use Prim.Native.Nat.{ℕ, _-_, _<_, _≤_}
 use native.Mathlib.Omega.{arith}
-use mathlib.Core.Path.{_≡_, refl, sym, ap, _∙_}
-use Prim.Native.Nat.{ℕ, _+_, _*_, _-_, _/_, _<_, _≤_}
-use lib.ListN.{length, getD, drop, take, length-set}
+use borrow.Author.Tests.{not-true, not-false}
+use borrow.Author.Needs.{needs}
+use lib.ListN.{length}
+use Rattle.pauli.specs.Rows.{commute, everyBelow, central}
+use Rattle.encoding.specs.Set.{mem, rowsOf}
+use Rattle.cmpnt_list.proofs.Every.{every-none, every-more, every-not}
 use Rattle.cmpnt_list.proofs.central_row.Statement.{statement}
 use Rattle.cmpnt_list.proofs.central_row.Tie as tie
-use Rattle.cmpnt_list.proofs.central_row.Reads as reads
-use Rattle.cmpnt_list.proofs.central_row.Lts as lts
-use Rattle.cmpnt_list.proofs.commute_rows.Reads as commute-rows-reads
 
 abbrev Inv-loop : tie.InvT-loop
 Inv-loop n x z phases r m k₀ k = (m ≡ length phases) × (k ≤ m) × (everyBelow k (λ k. commute n (rowsOf n (mem x z phases) r) (rowsOf n (mem x z phases) k)) ≡ true)

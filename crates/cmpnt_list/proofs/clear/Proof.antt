@@ -1,13 +1,9 @@
-use Rattle.cmpnt_list.proofs.Filling.{Cleared, cleared-none, cleared-more, cleared-all}
+-- `cmpnt_list::clear` meets its contract. Assumes nothing.
+use Prim.Native.Nat.{_-_}
 use borrow.Author.Needs.{needs}
-use native.Mathlib.Omega.{arith}
-use mathlib.Core.Path.{_≡_, refl, sym, ap, _∙_}
-use Prim.Native.Nat.{ℕ, _+_, _*_, _-_, _/_, _<_, _≤_}
-use lib.ListN.{length, getD, drop, take, length-set}
+use Rattle.cmpnt_list.proofs.Filling.{Cleared, cleared-none, cleared-more, cleared-all}
 use Rattle.cmpnt_list.proofs.clear.Statement.{statement}
 use Rattle.cmpnt_list.proofs.clear.Tie as tie
-use Rattle.cmpnt_list.proofs.clear.Reads as reads
-use Rattle.cmpnt_list.proofs.clear.Lts as lts
 
 abbrev Inv-loop : tie.InvT-loop
 Inv-loop out₀ m i₀ out i = Cleared m out₀ out i

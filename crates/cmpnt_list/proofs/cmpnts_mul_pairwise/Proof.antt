@@ -1,23 +1,15 @@
-use mathlib.Core.List.{List}
-use Rattle.encoding.specs.declared.Answer.the-variants.{Done, Refused}
+-- `cmpnt_list::cmpnts_mul_pairwise` meets its contract. Assumes nothing.
+use mathlib.Core.Path.{refl, sym, _∙_}
+use Prim.Native.Nat.{ℕ}
+use borrow.Author.Needs.{needs}
+use Rattle.encoding.specs.declared.Answer.the-variants.{Refused}
 use Rattle.encoding.specs.Refusals.{doneOr, leftOr, joined, setTests, outTests}
 use Rattle.encoding.proofs.Faults.{least-none}
+use Rattle.encoding.specs.Set.{mem, count, lay}
 use Rattle.cmpnt_list.specs.Calls.{pairs, differentRows}
-use Rattle.encoding.specs.Set.{mem, rowsOf, count, lay}
 use Rattle.cmpnt_list.proofs.Tests.{refusing, passing, both-parts}
-use native.Mathlib.Omega.{arith}
-use mathlib.Core.Path.{_≡_, refl, sym, ap, _∙_}
-use Prim.Native.Nat.{ℕ, _+_, _*_, _-_, _/_, _<_, _≤_}
-use lib.ListN.{length, getD, drop, take, length-set}
-use borrow.Author.Needs.{needs}
 use Rattle.cmpnt_list.proofs.cmpnts_mul_pairwise.Statement.{statement}
 use Rattle.cmpnt_list.proofs.cmpnts_mul_pairwise.Tie as tie
-use Rattle.cmpnt_list.proofs.cmpnts_mul_pairwise.Reads as reads
-use Rattle.cmpnt_list.proofs.cmpnts_mul_pairwise.Lts as lts
-use Rattle.cmpnt_list.proofs.both_fault.Reads as both-fault-reads
-use Rattle.cmpnt_list.proofs.mul_rows.Reads as mul-rows-reads
-use Rattle.cmpnt_list.proofs.third_fault.Reads as third-fault-reads
-use Rattle.encoding.proofs.smaller.Reads as smaller-reads
 
 both-fault-requires : tie.Need-both-fault-requires
 both-fault-requires c κs = search needs

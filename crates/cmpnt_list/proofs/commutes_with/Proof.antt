@@ -1,19 +1,15 @@
+-- `cmpnt_list::commutes_with` meets its contract. Assumes nothing.
+use mathlib.Core.Path.{refl, ap, _∙_}
+use Prim.Native.Nat.{ℕ}
+use borrow.Author.Needs.{needs}
+use lib.ListN.{length}
 use Rattle.pauli.specs.Rows.{commute}
+use Rattle.encoding.specs.Set.{mem, rowsOf}
 use Rattle.cmpnt_list.specs.Calls.{commutesWith, truthOr}
 use Rattle.cmpnt_list.specs.declared.Truth.the-variants as truth
-use Rattle.encoding.specs.Set.{mem, rowsOf, count, lay}
 use Rattle.cmpnt_list.proofs.Tests.{refusing, passing, both-small}
-use native.Mathlib.Omega.{arith}
-use mathlib.Core.Path.{_≡_, refl, sym, ap, _∙_}
-use Prim.Native.Nat.{ℕ, _+_, _*_, _-_, _/_, _<_, _≤_}
-use lib.ListN.{length, getD, drop, take, length-set}
-use borrow.Author.Needs.{needs}
 use Rattle.cmpnt_list.proofs.commutes_with.Statement.{statement}
 use Rattle.cmpnt_list.proofs.commutes_with.Tie as tie
-use Rattle.cmpnt_list.proofs.commutes_with.Reads as reads
-use Rattle.cmpnt_list.proofs.commutes_with.Lts as lts
-use Rattle.cmpnt_list.proofs.commute_rows.Reads as commute-rows-reads
-use Rattle.cmpnt_list.proofs.row_fault.Reads as row-fault-reads
 
 row-fault-requires : tie.Need-row-fault-requires
 row-fault-requires c κs = search needs

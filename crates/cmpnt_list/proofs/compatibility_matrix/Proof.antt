@@ -1,20 +1,14 @@
-use mathlib.Core.List.{List}
-use Rattle.encoding.specs.declared.Answer.the-variants.{Done, Refused}
-use Rattle.encoding.specs.Refusals.{doneOr, leftOr, joined, setTests, outTests}
-use Rattle.cmpnt_list.specs.Calls.{laidMatrix, commuting}
-use Rattle.encoding.specs.Set.{mem, rowsOf, count, lay}
-use Rattle.cmpnt_list.proofs.Tests.{refusing, passing}
-use native.Mathlib.Omega.{arith}
-use mathlib.Core.Path.{_≡_, refl, sym, ap, _∙_}
-use Prim.Native.Nat.{ℕ, _+_, _*_, _-_, _/_, _<_, _≤_}
-use lib.ListN.{length, getD, drop, take, length-set}
+-- `cmpnt_list::compatibility_matrix` meets its contract. Assumes nothing.
+use mathlib.Core.Path.{refl, _∙_}
+use Prim.Native.Nat.{ℕ}
 use borrow.Author.Needs.{needs}
+use Rattle.encoding.specs.declared.Answer.the-variants.{Refused}
+use Rattle.encoding.specs.Refusals.{doneOr, leftOr}
+use Rattle.encoding.specs.Set.{mem, count}
+use Rattle.cmpnt_list.specs.Calls.{laidMatrix, commuting}
+use Rattle.cmpnt_list.proofs.Tests.{refusing, passing}
 use Rattle.cmpnt_list.proofs.compatibility_matrix.Statement.{statement}
 use Rattle.cmpnt_list.proofs.compatibility_matrix.Tie as tie
-use Rattle.cmpnt_list.proofs.compatibility_matrix.Reads as reads
-use Rattle.cmpnt_list.proofs.compatibility_matrix.Lts as lts
-use Rattle.cmpnt_list.proofs.fill_matrix.Reads as fill-matrix-reads
-use Rattle.cmpnt_list.proofs.matrix_fault.Reads as matrix-fault-reads
 
 matrix-fault-requires : tie.Need-matrix-fault-requires
 matrix-fault-requires c κs = search needs

@@ -1,20 +1,16 @@
+-- `cmpnt_list::count` meets its contract. Assumes nothing.
+use mathlib.Core.Path.{refl, ap, _∙_}
+use Prim.Native.Nat.{ℕ}
 use borrow.Author.Tests.{leb-false}
+use borrow.Author.Needs.{needs}
+use lib.ListN.{length}
 use Rattle.pauli.specs.Rows.{countOf}
+use Rattle.encoding.specs.Set.{mem, rowsOf}
 use Rattle.cmpnt_list.specs.Calls.{countIn, tallyOr}
 use Rattle.cmpnt_list.specs.declared.Tally.the-variants as tally
-use Rattle.encoding.specs.Set.{mem, rowsOf, count, lay}
-use Rattle.cmpnt_list.proofs.Tests.{refusing, passing, both-small}
-use native.Mathlib.Omega.{arith}
-use mathlib.Core.Path.{_≡_, refl, sym, ap, _∙_}
-use Prim.Native.Nat.{ℕ, _+_, _*_, _-_, _/_, _<_, _≤_}
-use lib.ListN.{length, getD, drop, take, length-set}
-use borrow.Author.Needs.{needs}
+use Rattle.cmpnt_list.proofs.Tests.{refusing, passing}
 use Rattle.cmpnt_list.proofs.count.Statement.{statement}
 use Rattle.cmpnt_list.proofs.count.Tie as tie
-use Rattle.cmpnt_list.proofs.count.Reads as reads
-use Rattle.cmpnt_list.proofs.count.Lts as lts
-use Rattle.cmpnt_list.proofs.count_in.Reads as count-in-reads
-use Rattle.cmpnt_list.proofs.row_fault.Reads as row-fault-reads
 
 row-fault-requires : tie.Need-row-fault-requires
 row-fault-requires c κs = search needs

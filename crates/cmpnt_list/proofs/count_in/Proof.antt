@@ -1,18 +1,10 @@
-use Rattle.encoding.specs.Limits.{wordsOf}
-use Rattle.encoding.specs.Set.{mem, rowsOf, count, lay}
-use Rattle.cmpnt_list.proofs.Counting.{counted-row}
-use native.Mathlib.Omega.{arith}
-use mathlib.Core.Path.{_≡_, refl, sym, ap, _∙_}
-use Prim.Native.Nat.{ℕ, _+_, _*_, _-_, _/_, _<_, _≤_}
-use lib.ListN.{length, getD, drop, take, length-set}
+-- `cmpnt_list::count_in` meets its contract. Assumes nothing.
+use mathlib.Core.Path.{_∙_}
 use borrow.Author.Needs.{needs}
+use Rattle.encoding.specs.Limits.{wordsOf}
+use Rattle.cmpnt_list.proofs.Counting.{counted-row}
 use Rattle.cmpnt_list.proofs.count_in.Statement.{statement}
 use Rattle.cmpnt_list.proofs.count_in.Tie as tie
-use Rattle.cmpnt_list.proofs.count_in.Reads as reads
-use Rattle.cmpnt_list.proofs.count_in.Lts as lts
-use Rattle.cmpnt_list.proofs.count_row.Reads as count-row-reads
-use Rattle.cmpnt_list.proofs.from_masks.Reads as from-masks-reads
-use Rattle.cmpnt_list.proofs.row_span.Reads as row-span-reads
 
 row-span-requires : tie.Need-row-span-requires
 row-span-requires c κs = search needs

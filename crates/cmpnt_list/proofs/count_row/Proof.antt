@@ -1,14 +1,10 @@
-use Rattle.cmpnt_list.proofs.Counting.{Tallied, tallied-none, tallied-more, tallied-all}
+-- `cmpnt_list::count_row` meets its contract. Assumes nothing.
+use Prim.Native.Nat.{_-_}
 use borrow.Author.Needs.{needs}
-use native.Mathlib.Omega.{arith}
-use mathlib.Core.Path.{_≡_, refl, sym, ap, _∙_}
-use Prim.Native.Nat.{ℕ, _+_, _*_, _-_, _/_, _<_, _≤_}
-use lib.ListN.{length, getD, drop, take, length-set}
+use lib.ListN.{length}
+use Rattle.cmpnt_list.proofs.Counting.{Tallied, tallied-none, tallied-more, tallied-all}
 use Rattle.cmpnt_list.proofs.count_row.Statement.{statement}
 use Rattle.cmpnt_list.proofs.count_row.Tie as tie
-use Rattle.cmpnt_list.proofs.count_row.Reads as reads
-use Rattle.cmpnt_list.proofs.count_row.Lts as lts
-use Rattle.cmpnt_list.proofs.count_word.Reads as count-word-reads
 
 abbrev Inv-loop : tie.InvT-loop
 Inv-loop x z p k₀ i₀ k i = Tallied p x z k i

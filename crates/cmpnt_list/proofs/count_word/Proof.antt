@@ -1,18 +1,14 @@
-use Rattle.encoding.specs.Words.{word}
+-- `cmpnt_list::count_word` meets its contract. Assumes nothing.
+use mathlib.Core.Path.{_≡_, sym, ap, _∙_}
+use native.Mathlib.Omega.{arith}
+use borrow.Author.Needs.{needs}
 use Rattle.pauli.specs.declared.PauliMatrix.the-variants.{I, X, Y, Z}
 use Rattle.pauli.specs.Pauli.{Pauli}
-use Rattle.cmpnt_list.proofs.Counting.{word-count}
+use Rattle.encoding.specs.Words.{word}
 use Rattle.cmpnt_list.specs.Workers.{masked}
-use native.Mathlib.Omega.{arith}
-use mathlib.Core.Path.{_≡_, refl, sym, ap, _∙_}
-use Prim.Native.Nat.{ℕ, _+_, _*_, _-_, _/_, _<_, _≤_}
-use lib.ListN.{length, getD, drop, take, length-set}
-use borrow.Author.Needs.{needs}
+use Rattle.cmpnt_list.proofs.Counting.{word-count}
 use Rattle.cmpnt_list.proofs.count_word.Statement.{statement}
 use Rattle.cmpnt_list.proofs.count_word.Tie as tie
-use Rattle.cmpnt_list.proofs.count_word.Reads as reads
-use Rattle.cmpnt_list.proofs.count_word.Lts as lts
-use Rattle.cmpnt_list.proofs.ones_in.Reads as ones-in-reads
 
 enum-told : tie.Need-enum-told
 enum-told c = search needs

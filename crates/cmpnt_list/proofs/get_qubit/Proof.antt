@@ -1,20 +1,15 @@
-use Rattle.pauli.specs.Row.{Row}
-use Rattle.pauli.specs.declared.PauliMatrix.the-variants.{I}
-use Rattle.cmpnt_list.specs.declared.Got.the-variants as got
-use Rattle.encoding.specs.Set.{mem, rowsOf, count, lay}
-use Rattle.cmpnt_list.proofs.Tests.{refusing, passing, both-small}
-use Rattle.cmpnt_list.specs.Calls.{getQubit, gotOr}
-use native.Mathlib.Omega.{arith}
-use mathlib.Core.Path.{_≡_, refl, sym, ap, _∙_}
-use Prim.Native.Nat.{ℕ, _+_, _*_, _-_, _/_, _<_, _≤_}
-use lib.ListN.{length, getD, drop, take, length-set}
+-- `cmpnt_list::get_qubit` meets its contract. Assumes nothing.
+use mathlib.Core.Path.{refl, ap, _∙_}
+use Prim.Native.Nat.{ℕ}
 use borrow.Author.Needs.{needs}
+use lib.ListN.{length, getD}
+use Rattle.pauli.specs.declared.PauliMatrix.the-variants.{I}
+use Rattle.encoding.specs.Set.{mem, rowsOf}
+use Rattle.cmpnt_list.specs.declared.Got.the-variants as got
+use Rattle.cmpnt_list.specs.Calls.{getQubit, gotOr}
+use Rattle.cmpnt_list.proofs.Tests.{refusing, passing, both-small}
 use Rattle.cmpnt_list.proofs.get_qubit.Statement.{statement}
 use Rattle.cmpnt_list.proofs.get_qubit.Tie as tie
-use Rattle.cmpnt_list.proofs.get_qubit.Reads as reads
-use Rattle.cmpnt_list.proofs.get_qubit.Lts as lts
-use Rattle.cmpnt_list.proofs.read_qubit.Reads as read-qubit-reads
-use Rattle.cmpnt_list.proofs.row_fault.Reads as row-fault-reads
 
 row-fault-requires : tie.Need-row-fault-requires
 row-fault-requires c κs = search needs

@@ -1,25 +1,18 @@
-use mathlib.Core.List.{List}
+-- `cmpnt_list::imul_state` meets its contract. Assumes nothing.
+use mathlib.Core.Path.{refl, sym, ap, _∙_}
+use Prim.Native.Nat.{ℕ}
 use borrow.Author.Tests.{leb-false}
-use Rattle.encoding.proofs.Faults.{least-none}
+use borrow.Author.Needs.{needs}
+use lib.ListN.{length}
 use Rattle.pauli.specs.Rows.{actOn, actPhaseOn}
+use Rattle.encoding.proofs.Faults.{least-none}
 use Rattle.encoding.specs.Refusals.{leftOr, joined, setTests, numberTests, stateTests, tooLarge}
+use Rattle.encoding.specs.Set.{mem, rowsOf, count}
 use Rattle.cmpnt_list.specs.Calls.{phaseOr, stateOf, layState}
 use Rattle.cmpnt_list.specs.declared.Phase.the-variants as phase
-use Rattle.encoding.specs.Set.{mem, rowsOf, count, lay}
 use Rattle.cmpnt_list.proofs.Tests.{refusing, passing, both-parts}
-use native.Mathlib.Omega.{arith}
-use mathlib.Core.Path.{_≡_, refl, sym, ap, _∙_}
-use Prim.Native.Nat.{ℕ, _+_, _*_, _-_, _/_, _<_, _≤_}
-use lib.ListN.{length, getD, drop, take, length-set}
-use borrow.Author.Needs.{needs}
 use Rattle.cmpnt_list.proofs.imul_state.Statement.{statement}
 use Rattle.cmpnt_list.proofs.imul_state.Tie as tie
-use Rattle.cmpnt_list.proofs.imul_state.Reads as reads
-use Rattle.cmpnt_list.proofs.imul_state.Lts as lts
-use Rattle.cmpnt_list.proofs.act_on.Reads as act-on-reads
-use Rattle.cmpnt_list.proofs.row_fault.Reads as row-fault-reads
-use Rattle.encoding.proofs.smaller.Reads as smaller-reads
-use Rattle.encoding.proofs.state_fault.Reads as state-fault-reads
 
 row-fault-requires : tie.Need-row-fault-requires
 row-fault-requires c κs = search needs

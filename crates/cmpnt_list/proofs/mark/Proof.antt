@@ -1,20 +1,15 @@
-use Prim.Native.Nat.{_%_}
-use lib.ListN.{set}
+-- `cmpnt_list::mark` meets its contract. Assumes nothing.
 use mathlib.Core.Bool.{true}
-use mathlib.Core.Path.{subst}
-use Rattle.cmpnt_list.specs.Workers.{Marked}
-use Rattle.encoding.proofs.OneBit.{code-on}
-use Rattle.cmpnt_list.proofs.Filling.{marked}
+use mathlib.Core.Path.{subst, refl, sym, ap}
+use Prim.Native.Nat.{_%_, ℕ, _+_, _/_, _<_}
 use native.Mathlib.Omega.{arith}
-use mathlib.Core.Path.{_≡_, refl, sym, ap, _∙_}
-use Prim.Native.Nat.{ℕ, _+_, _*_, _-_, _/_, _<_, _≤_}
-use lib.ListN.{length, getD, drop, take, length-set}
 use borrow.Author.Needs.{needs}
+use lib.ListN.{set, length, getD}
+use Rattle.encoding.proofs.OneBit.{code-on}
+use Rattle.cmpnt_list.specs.Workers.{Marked}
+use Rattle.cmpnt_list.proofs.Filling.{marked}
 use Rattle.cmpnt_list.proofs.mark.Statement.{statement}
 use Rattle.cmpnt_list.proofs.mark.Tie as tie
-use Rattle.cmpnt_list.proofs.mark.Reads as reads
-use Rattle.cmpnt_list.proofs.mark.Lts as lts
-use Rattle.cmpnt_list.proofs.row_span.Reads as row-span-reads
 
 row-span-requires : tie.Need-row-span-requires
 row-span-requires c κs = search needs

@@ -1,17 +1,14 @@
-use Rattle.cmpnt_list.proofs.Filling.{line-end}
+-- `cmpnt_list::mark_line` meets its contract. Assumes nothing.
+use Prim.Native.Nat.{_+_, _-_, _≤_}
+use native.Mathlib.Omega.{arith}
+use borrow.Author.Needs.{needs}
+use lib.ListN.{length}
+use Rattle.encoding.specs.Set.{mem}
 use Rattle.cmpnt_list.specs.Workers.{Filled}
 use Rattle.cmpnt_list.specs.Calls.{commuting}
-use Rattle.encoding.specs.Set.{mem, rowsOf, count, lay}
-use borrow.Author.Needs.{needs}
-use native.Mathlib.Omega.{arith}
-use mathlib.Core.Path.{_≡_, refl, sym, ap, _∙_}
-use Prim.Native.Nat.{ℕ, _+_, _*_, _-_, _/_, _<_, _≤_}
-use lib.ListN.{length, getD, drop, take, length-set}
+use Rattle.cmpnt_list.proofs.Filling.{line-end}
 use Rattle.cmpnt_list.proofs.mark_line.Statement.{statement}
 use Rattle.cmpnt_list.proofs.mark_line.Tie as tie
-use Rattle.cmpnt_list.proofs.mark_line.Reads as reads
-use Rattle.cmpnt_list.proofs.mark_line.Lts as lts
-use Rattle.cmpnt_list.proofs.mark_pair.Reads as mark-pair-reads
 
 abbrev Inv-loop : tie.InvT-loop
 Inv-loop n x z phases i out₀ j₀ out j = (j ≤ i + 1) × Filled (commuting n (mem x z phases)) (length phases) i j out

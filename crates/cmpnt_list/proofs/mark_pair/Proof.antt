@@ -1,18 +1,11 @@
-use Rattle.cmpnt_list.proofs.Filling.{commute-sym, pair-yes, pair-no}
-use Rattle.cmpnt_list.specs.Workers.{Filled}
-use Rattle.cmpnt_list.specs.Calls.{commuting}
-use Rattle.encoding.specs.Set.{mem, rowsOf, count, lay}
-use native.Mathlib.Omega.{arith}
-use mathlib.Core.Path.{_≡_, refl, sym, ap, _∙_}
-use Prim.Native.Nat.{ℕ, _+_, _*_, _-_, _/_, _<_, _≤_}
-use lib.ListN.{length, getD, drop, take, length-set}
+-- `cmpnt_list::mark_pair` meets its contract. Assumes nothing.
+use mathlib.Core.Path.{sym, _∙_}
 use borrow.Author.Needs.{needs}
+use Rattle.encoding.specs.Set.{mem, rowsOf}
+use Rattle.cmpnt_list.specs.Calls.{commuting}
+use Rattle.cmpnt_list.proofs.Filling.{commute-sym, pair-yes, pair-no}
 use Rattle.cmpnt_list.proofs.mark_pair.Statement.{statement}
 use Rattle.cmpnt_list.proofs.mark_pair.Tie as tie
-use Rattle.cmpnt_list.proofs.mark_pair.Reads as reads
-use Rattle.cmpnt_list.proofs.mark_pair.Lts as lts
-use Rattle.cmpnt_list.proofs.commute_rows.Reads as commute-rows-reads
-use Rattle.cmpnt_list.proofs.mark.Reads as mark-reads
 
 commute-rows-requires : tie.Need-commute-rows-requires
 commute-rows-requires c κs = search needs

@@ -1,19 +1,11 @@
-use Rattle.encoding.specs.Refusals.{setTests}
-use Rattle.cmpnt_list.specs.Calls.{matrixTests}
-use Rattle.encoding.specs.Set.{mem, rowsOf, count, lay}
-use Rattle.cmpnt_list.proofs.Tests.{both-parts, matrix-asked}
-use native.Mathlib.Omega.{arith}
-use mathlib.Core.Path.{_≡_, refl, sym, ap, _∙_}
-use Prim.Native.Nat.{ℕ, _+_, _*_, _-_, _/_, _<_, _≤_}
-use lib.ListN.{length, getD, drop, take, length-set}
+-- `cmpnt_list::matrix_fault` meets its contract. Assumes nothing.
 use borrow.Author.Needs.{needs}
+use Rattle.encoding.specs.Refusals.{setTests}
+use Rattle.encoding.specs.Set.{mem, count}
+use Rattle.cmpnt_list.specs.Calls.{matrixTests}
+use Rattle.cmpnt_list.proofs.Tests.{both-parts, matrix-asked}
 use Rattle.cmpnt_list.proofs.matrix_fault.Statement.{statement}
 use Rattle.cmpnt_list.proofs.matrix_fault.Tie as tie
-use Rattle.cmpnt_list.proofs.matrix_fault.Reads as reads
-use Rattle.cmpnt_list.proofs.matrix_fault.Lts as lts
-use Rattle.cmpnt_list.proofs.square_fault.Reads as square-fault-reads
-use Rattle.encoding.proofs.set_fault.Reads as set-fault-reads
-use Rattle.encoding.proofs.smaller.Reads as smaller-reads
 
 set-fault-requires : tie.Need-set-fault-requires
 set-fault-requires c κs = search needs

@@ -1,15 +1,11 @@
-use Rattle.encoding.specs.Limits.{wordsOf}
+-- `cmpnt_list::matrix_size` meets its contract. Assumes nothing.
+use mathlib.Core.Path.{ap}
+use Prim.Native.Nat.{ℕ, _*_, _≤_}
 use native.Mathlib.Nat.{mul-le-mul}
 use native.Mathlib.Omega.{arith}
-use mathlib.Core.Path.{_≡_, refl, sym, ap, _∙_}
-use Prim.Native.Nat.{ℕ, _+_, _*_, _-_, _/_, _<_, _≤_}
-use lib.ListN.{length, getD, drop, take, length-set}
 use borrow.Author.Needs.{needs}
 use Rattle.cmpnt_list.proofs.matrix_size.Statement.{statement}
 use Rattle.cmpnt_list.proofs.matrix_size.Tie as tie
-use Rattle.cmpnt_list.proofs.matrix_size.Reads as reads
-use Rattle.cmpnt_list.proofs.matrix_size.Lts as lts
-use Rattle.encoding.proofs.words.Reads as words-reads
 
 words-requires : tie.Need-words-requires
 words-requires c κs = search needs

@@ -1,14 +1,8 @@
-use Rattle.cmpnt_list.proofs.Pairing.{part-product}
-use native.Mathlib.Omega.{arith}
-use mathlib.Core.Path.{_≡_, refl, sym, ap, _∙_}
-use Prim.Native.Nat.{ℕ, _+_, _*_, _-_, _/_, _<_, _≤_}
-use lib.ListN.{length, getD, drop, take, length-set}
+-- `cmpnt_list::mul_part` meets its contract. Assumes nothing.
 use borrow.Author.Needs.{needs}
+use Rattle.cmpnt_list.proofs.Pairing.{part-product}
 use Rattle.cmpnt_list.proofs.mul_part.Statement.{statement}
 use Rattle.cmpnt_list.proofs.mul_part.Tie as tie
-use Rattle.cmpnt_list.proofs.mul_part.Reads as reads
-use Rattle.cmpnt_list.proofs.mul_part.Lts as lts
-use Rattle.products.proofs.mul_op_op.Reads as mul-op-op-reads
 
 mul-mul-op-op : tie.Need-mul-mul-op-op
 mul-mul-op-op c = search needs

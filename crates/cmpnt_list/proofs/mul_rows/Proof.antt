@@ -1,21 +1,16 @@
+-- `cmpnt_list::mul_rows` meets its contract. Assumes nothing.
+use mathlib.Core.Path.{subst, _≡_, sym, ap, _∙_}
+use Prim.Native.Nat.{ℕ, _*_, _-_, _<_, _≤_}
+use native.Mathlib.Omega.{arith}
+use borrow.Author.Needs.{needs}
+use lib.ListN.{length}
 use Rattle.encoding.specs.Limits.{wordsOf, maxRows}
-use mathlib.Core.Path.{subst}
+use Rattle.encoding.specs.Set.{mem}
 use Rattle.cmpnt_list.specs.Calls.{pairs}
-use Rattle.encoding.specs.Limits.{wordsOf}
-use Rattle.encoding.specs.Set.{mem, rowsOf, count, lay}
 use Rattle.cmpnt_list.proofs.Views.{Holds, laid-by}
 use Rattle.cmpnt_list.proofs.Pairing.{holds-none, holds-more, all-long}
-use borrow.Author.Needs.{needs}
-use native.Mathlib.Omega.{arith}
-use mathlib.Core.Path.{_≡_, refl, sym, ap, _∙_}
-use Prim.Native.Nat.{ℕ, _+_, _*_, _-_, _/_, _<_, _≤_}
-use lib.ListN.{length, getD, drop, take, length-set}
 use Rattle.cmpnt_list.proofs.mul_rows.Statement.{statement}
 use Rattle.cmpnt_list.proofs.mul_rows.Tie as tie
-use Rattle.cmpnt_list.proofs.mul_rows.Reads as reads
-use Rattle.cmpnt_list.proofs.mul_rows.Lts as lts
-use Rattle.cmpnt_list.proofs.mul_part.Reads as mul-part-reads
-use Rattle.cmpnt_list.proofs.row_span.Reads as row-span-reads
 
 abbrev Inv-loop : tie.InvT-loop
 Inv-loop n lx lz lp rx rz rp ox₀ oz₀ op₀ m r₀ ox oz op r = (r ≤ m) × (m ≡ length lp) × Holds (wordsOf n) (length lp) r (pairs n (mem lx lz lp) (mem rx rz rp)) (mem ox oz op)

@@ -1,13 +1,9 @@
-use lib.Count.{ones-le}
-use borrow.Author.Needs.{needs}
+-- `cmpnt_list::ones_in` meets its contract. Assumes nothing.
+use mathlib.Core.Path.{refl}
 use native.Mathlib.Omega.{arith}
-use mathlib.Core.Path.{_≡_, refl, sym, ap, _∙_}
-use Prim.Native.Nat.{ℕ, _+_, _*_, _-_, _/_, _<_, _≤_}
-use lib.ListN.{length, getD, drop, take, length-set}
+use lib.Count.{ones-le}
 use Rattle.cmpnt_list.proofs.ones_in.Statement.{statement}
 use Rattle.cmpnt_list.proofs.ones_in.Tie as tie
-use Rattle.cmpnt_list.proofs.ones_in.Reads as reads
-use Rattle.cmpnt_list.proofs.ones_in.Lts as lts
 
 cast-result : tie.Need-cast-result
 cast-result c = omega (arith, ones-le 64 (c .args .x) (c .fits .x .fits))

@@ -1,19 +1,15 @@
+-- `cmpnt_list::phase_of_mul` meets its contract. Assumes nothing.
+use mathlib.Core.Path.{refl, ap, _∙_}
+use Prim.Native.Nat.{ℕ}
+use borrow.Author.Needs.{needs}
+use lib.ListN.{length}
 use Rattle.pauli.specs.Rows.{phaseOf}
+use Rattle.encoding.specs.Set.{mem, rowsOf}
 use Rattle.cmpnt_list.specs.Calls.{phaseOfMul, phaseOr}
 use Rattle.cmpnt_list.specs.declared.Phase.the-variants as phase
-use Rattle.encoding.specs.Set.{mem, rowsOf, count, lay}
 use Rattle.cmpnt_list.proofs.Tests.{refusing, passing, both-small}
-use native.Mathlib.Omega.{arith}
-use mathlib.Core.Path.{_≡_, refl, sym, ap, _∙_}
-use Prim.Native.Nat.{ℕ, _+_, _*_, _-_, _/_, _<_, _≤_}
-use lib.ListN.{length, getD, drop, take, length-set}
-use borrow.Author.Needs.{needs}
 use Rattle.cmpnt_list.proofs.phase_of_mul.Statement.{statement}
 use Rattle.cmpnt_list.proofs.phase_of_mul.Tie as tie
-use Rattle.cmpnt_list.proofs.phase_of_mul.Reads as reads
-use Rattle.cmpnt_list.proofs.phase_of_mul.Lts as lts
-use Rattle.cmpnt_list.proofs.phase_rows.Reads as phase-rows-reads
-use Rattle.cmpnt_list.proofs.row_fault.Reads as row-fault-reads
 
 row-fault-requires : tie.Need-row-fault-requires
 row-fault-requires c κs = search needs

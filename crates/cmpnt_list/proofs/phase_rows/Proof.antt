@@ -1,22 +1,14 @@
-use lib.Dec.{eqb}
-use Prim.Native.Nat.{_%_}
-use mathlib.Core.Path.{ap₂}
+-- `cmpnt_list::phase_rows` meets its contract. Assumes nothing.
+use mathlib.Core.Path.{ap₂, _∙_}
 use mathlib.Core.List.{List}
-use Rattle.pauli.specs.Pauli.{Pauli, phases, clashes}
-use Rattle.encoding.specs.Limits.{wordsOf}
-use Rattle.encoding.specs.Set.{mem, rowsOf, count, lay}
-use Rattle.cmpnt_list.proofs.Views.{words-at, phase-is, commute-is}
-use native.Mathlib.Omega.{arith}
-use mathlib.Core.Path.{_≡_, refl, sym, ap, _∙_}
-use Prim.Native.Nat.{ℕ, _+_, _*_, _-_, _/_, _<_, _≤_}
-use lib.ListN.{length, getD, drop, take, length-set}
+use Prim.Native.Nat.{_%_}
 use borrow.Author.Needs.{needs}
+use Rattle.pauli.specs.Pauli.{Pauli, phases}
+use Rattle.encoding.specs.Limits.{wordsOf}
+use Rattle.encoding.specs.Set.{mem}
+use Rattle.cmpnt_list.proofs.Views.{words-at, phase-is}
 use Rattle.cmpnt_list.proofs.phase_rows.Statement.{statement}
 use Rattle.cmpnt_list.proofs.phase_rows.Tie as tie
-use Rattle.cmpnt_list.proofs.phase_rows.Reads as reads
-use Rattle.cmpnt_list.proofs.phase_rows.Lts as lts
-use Rattle.cmpnt_list.proofs.row_span.Reads as row-span-reads
-use Rattle.products.proofs.mul_op_op_phase.Reads as mul-op-op-phase-reads
 
 row-span-requires : tie.Need-row-span-requires
 row-span-requires c κs = search needs

@@ -1,20 +1,15 @@
-use Rattle.pauli.specs.declared.PauliMatrix.the-variants.{I}
+-- `cmpnt_list::read_qubit` meets its contract. Assumes nothing.
 use mathlib.Core.List.{List}
+use mathlib.Core.Path.{ap, _∙_}
+use borrow.Author.Needs.{needs}
+use lib.ListN.{getD}
+use Rattle.pauli.specs.declared.PauliMatrix.the-variants.{I}
 use Rattle.pauli.specs.Pauli.{Pauli}
 use Rattle.encoding.specs.Limits.{wordsOf}
-use Rattle.encoding.specs.Set.{mem, rowsOf, count, lay}
+use Rattle.encoding.specs.Set.{mem}
 use Rattle.cmpnt_list.proofs.Views.{words-at, qubit-is}
-use native.Mathlib.Omega.{arith}
-use mathlib.Core.Path.{_≡_, refl, sym, ap, _∙_}
-use Prim.Native.Nat.{ℕ, _+_, _*_, _-_, _/_, _<_, _≤_}
-use lib.ListN.{length, getD, drop, take, length-set}
-use borrow.Author.Needs.{needs}
 use Rattle.cmpnt_list.proofs.read_qubit.Statement.{statement}
 use Rattle.cmpnt_list.proofs.read_qubit.Tie as tie
-use Rattle.cmpnt_list.proofs.read_qubit.Reads as reads
-use Rattle.cmpnt_list.proofs.read_qubit.Lts as lts
-use Rattle.cmpnt_list.proofs.row_span.Reads as row-span-reads
-use Rattle.encoding.proofs.get_qubit.Reads as get-qubit-reads
 
 row-span-requires : tie.Need-row-span-requires
 row-span-requires c κs = search needs

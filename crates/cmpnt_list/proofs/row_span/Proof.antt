@@ -1,14 +1,9 @@
-use Rattle.cmpnt_list.proofs.Views.{row-at, row-small}
+-- `cmpnt_list::row_span` meets its contract. Assumes nothing.
 use native.Mathlib.Omega.{arith}
-use mathlib.Core.Path.{_≡_, refl, sym, ap, _∙_}
-use Prim.Native.Nat.{ℕ, _+_, _*_, _-_, _/_, _<_, _≤_}
-use lib.ListN.{length, getD, drop, take, length-set}
 use borrow.Author.Needs.{needs}
+use Rattle.cmpnt_list.proofs.Views.{row-at, row-small}
 use Rattle.cmpnt_list.proofs.row_span.Statement.{statement}
 use Rattle.cmpnt_list.proofs.row_span.Tie as tie
-use Rattle.cmpnt_list.proofs.row_span.Reads as reads
-use Rattle.cmpnt_list.proofs.row_span.Lts as lts
-use Rattle.encoding.proofs.words.Reads as words-reads
 
 words-requires : tie.Need-words-requires
 words-requires c κs = search needs

@@ -1,20 +1,15 @@
+-- `cmpnt_list::set_qubit` meets its contract. Assumes nothing.
+use mathlib.Core.Path.{refl, _∙_}
+use Prim.Native.Nat.{ℕ}
+use borrow.Author.Needs.{needs}
+use lib.ListN.{length}
 use Rattle.pauli.specs.Rows.{withQubit}
-use Rattle.encoding.specs.declared.Answer.the-variants.{Done, Refused}
-use Rattle.encoding.specs.Set.{Mem}
+use Rattle.encoding.specs.declared.Answer.the-variants.{Refused}
 use Rattle.encoding.specs.Refusals.{doneOr, leftOr}
 use Rattle.encoding.specs.Set.{mem, rowsOf, count, lay}
 use Rattle.cmpnt_list.proofs.Tests.{refusing, passing, both-small}
-use native.Mathlib.Omega.{arith}
-use mathlib.Core.Path.{_≡_, refl, sym, ap, _∙_}
-use Prim.Native.Nat.{ℕ, _+_, _*_, _-_, _/_, _<_, _≤_}
-use lib.ListN.{length, getD, drop, take, length-set}
-use borrow.Author.Needs.{needs}
 use Rattle.cmpnt_list.proofs.set_qubit.Statement.{statement}
 use Rattle.cmpnt_list.proofs.set_qubit.Tie as tie
-use Rattle.cmpnt_list.proofs.set_qubit.Reads as reads
-use Rattle.cmpnt_list.proofs.set_qubit.Lts as lts
-use Rattle.cmpnt_list.proofs.row_fault.Reads as row-fault-reads
-use Rattle.cmpnt_list.proofs.write_qubit.Reads as write-qubit-reads
 
 row-fault-requires : tie.Need-row-fault-requires
 row-fault-requires c κs = search needs

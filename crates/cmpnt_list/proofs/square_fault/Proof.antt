@@ -1,15 +1,8 @@
-use Rattle.cmpnt_list.proofs.Tests.{matrix-many, matrix-size}
-use native.Mathlib.Omega.{arith}
-use mathlib.Core.Path.{_≡_, refl, sym, ap, _∙_}
-use Prim.Native.Nat.{ℕ, _+_, _*_, _-_, _/_, _<_, _≤_}
-use lib.ListN.{length, getD, drop, take, length-set}
+-- `cmpnt_list::square_fault` meets its contract. Assumes nothing.
 use borrow.Author.Needs.{needs}
+use Rattle.cmpnt_list.proofs.Tests.{matrix-many, matrix-size}
 use Rattle.cmpnt_list.proofs.square_fault.Statement.{statement}
 use Rattle.cmpnt_list.proofs.square_fault.Tie as tie
-use Rattle.cmpnt_list.proofs.square_fault.Reads as reads
-use Rattle.cmpnt_list.proofs.square_fault.Lts as lts
-use Rattle.cmpnt_list.proofs.matrix_size.Reads as matrix-size-reads
-use Rattle.encoding.proofs.pick.Reads as pick-reads
 
 returns : tie.Need-returns
 returns c = matrix-many (c .before .args .m) (c .before .args .size) (c .if1 .taken)

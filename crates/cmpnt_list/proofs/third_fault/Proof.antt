@@ -1,19 +1,12 @@
-use Rattle.encoding.specs.Refusals.{outTests}
-use Rattle.cmpnt_list.specs.Calls.{differentRows}
-use Rattle.encoding.specs.Set.{mem, rowsOf, count, lay}
-use Rattle.cmpnt_list.proofs.Tests.{both-parts, different-is, third-ready}
-use native.Mathlib.Omega.{arith}
-use mathlib.Core.Path.{_≡_, refl, sym, ap, _∙_}
-use Prim.Native.Nat.{ℕ, _+_, _*_, _-_, _/_, _<_, _≤_}
-use lib.ListN.{length, getD, drop, take, length-set}
+-- `cmpnt_list::third_fault` meets its contract. Assumes nothing.
+use mathlib.Core.Path.{_∙_}
 use borrow.Author.Needs.{needs}
+use Rattle.encoding.specs.Refusals.{outTests}
+use Rattle.encoding.specs.Set.{mem}
+use Rattle.cmpnt_list.specs.Calls.{differentRows}
+use Rattle.cmpnt_list.proofs.Tests.{both-parts, different-is, third-ready}
 use Rattle.cmpnt_list.proofs.third_fault.Statement.{statement}
 use Rattle.cmpnt_list.proofs.third_fault.Tie as tie
-use Rattle.cmpnt_list.proofs.third_fault.Reads as reads
-use Rattle.cmpnt_list.proofs.third_fault.Lts as lts
-use Rattle.encoding.proofs.out_fault.Reads as out-fault-reads
-use Rattle.encoding.proofs.pick.Reads as pick-reads
-use Rattle.encoding.proofs.smaller.Reads as smaller-reads
 
 pick-requires : tie.Need-pick-requires
 pick-requires c κs = search needs

@@ -1,17 +1,9 @@
-use Rattle.encoding.specs.Limits.{wordsOf}
-use Rattle.encoding.specs.Set.{mem, rowsOf, count, lay}
-use Rattle.cmpnt_list.proofs.OneQubit.{qubit-written}
-use native.Mathlib.Omega.{arith}
-use mathlib.Core.Path.{_≡_, refl, sym, ap, _∙_}
-use Prim.Native.Nat.{ℕ, _+_, _*_, _-_, _/_, _<_, _≤_}
-use lib.ListN.{length, getD, drop, take, length-set}
+-- `cmpnt_list::write_qubit` meets its contract. Assumes nothing.
 use borrow.Author.Needs.{needs}
+use Rattle.encoding.specs.Limits.{wordsOf}
+use Rattle.cmpnt_list.proofs.OneQubit.{qubit-written}
 use Rattle.cmpnt_list.proofs.write_qubit.Statement.{statement}
 use Rattle.cmpnt_list.proofs.write_qubit.Tie as tie
-use Rattle.cmpnt_list.proofs.write_qubit.Reads as reads
-use Rattle.cmpnt_list.proofs.write_qubit.Lts as lts
-use Rattle.cmpnt_list.proofs.row_span.Reads as row-span-reads
-use Rattle.encoding.proofs.set_qubit.Reads as set-qubit-reads
 
 row-span-requires : tie.Need-row-span-requires
 row-span-requires c κs = search needs

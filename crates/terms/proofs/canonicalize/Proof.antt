@@ -1,17 +1,10 @@
 use Rattle.terms.proofs.Answers.{reduce-refused, leaves-at}
 use Rattle.terms.specs.Calls.{outcomeOf}
 use Rattle.encoding.specs.Set.{mem}
-use native.Mathlib.Omega.{arith}
-use mathlib.Core.Path.{_≡_, refl, sym, ap, _∙_}
-use Prim.Native.Nat.{ℕ, _+_, _*_, _-_, _/_, _<_, _≤_}
-use lib.ListN.{length, getD, drop, take, length-set}
+use mathlib.Core.Path.{sym, _∙_}
 use borrow.Author.Needs.{needs}
 use Rattle.terms.proofs.canonicalize.Statement.{statement}
 use Rattle.terms.proofs.canonicalize.Tie as tie
-use Rattle.terms.proofs.canonicalize.Reads as reads
-use Rattle.terms.proofs.canonicalize.Lts as lts
-use Rattle.terms.proofs.reduce_fault.Reads as reduce-fault-reads
-use Rattle.terms.proofs.reduced.Reads as reduced-reads
 
 reduce-fault-requires : tie.Need-reduce-fault-requires
 reduce-fault-requires c κs = search needs

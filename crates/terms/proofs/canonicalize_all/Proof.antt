@@ -1,17 +1,10 @@
 use Rattle.terms.proofs.Answers.{sound-told, reduce-refused, leaves-at}
 use Rattle.terms.specs.Calls.{wholeOutcome}
 use Rattle.encoding.specs.Set.{mem}
-use native.Mathlib.Omega.{arith}
-use mathlib.Core.Path.{_≡_, refl, sym, ap, _∙_}
-use Prim.Native.Nat.{ℕ, _+_, _*_, _-_, _/_, _<_, _≤_}
-use lib.ListN.{length, getD, drop, take, length-set}
+use mathlib.Core.Path.{sym, _∙_}
 use borrow.Author.Needs.{needs}
 use Rattle.terms.proofs.canonicalize_all.Statement.{statement}
 use Rattle.terms.proofs.canonicalize_all.Tie as tie
-use Rattle.terms.proofs.canonicalize_all.Reads as reads
-use Rattle.terms.proofs.canonicalize_all.Lts as lts
-use Rattle.encoding.proofs.set_fault.Reads as set-fault-reads
-use Rattle.terms.proofs.reduced_all.Reads as reduced-all-reads
 
 set-fault-requires : tie.Need-set-fault-requires
 set-fault-requires c κs = search needs

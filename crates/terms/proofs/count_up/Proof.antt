@@ -1,13 +1,11 @@
 use Rattle.terms.proofs.Answers.{count-more, count-all}
 use borrow.Author.Needs.{needs}
 use native.Mathlib.Omega.{arith}
-use mathlib.Core.Path.{_≡_, refl, sym, ap, _∙_}
-use Prim.Native.Nat.{ℕ, _+_, _*_, _-_, _/_, _<_, _≤_}
-use lib.ListN.{length, getD, drop, take, length-set}
+use mathlib.Core.Path.{_≡_, refl, _∙_}
+use Prim.Native.Nat.{ℕ, _-_, _<_, _≤_}
+use lib.ListN.{length, getD, length-set}
 use Rattle.terms.proofs.count_up.Statement.{statement}
 use Rattle.terms.proofs.count_up.Tie as tie
-use Rattle.terms.proofs.count_up.Reads as reads
-use Rattle.terms.proofs.count_up.Lts as lts
 
 abbrev Inv-loop : tie.InvT-loop
 Inv-loop list₀ m i₀ list i = (i ≤ m) × (length list ≡ m) × ((j : ℕ) → j < i → getD list j 0 ≡ j)

@@ -1,16 +1,8 @@
 use Rattle.terms.proofs.Answers.{imul-refused, imul-done}
 use Rattle.encoding.specs.Set.{mem}
-use native.Mathlib.Omega.{arith}
-use mathlib.Core.Path.{_≡_, refl, sym, ap, _∙_}
-use Prim.Native.Nat.{ℕ, _+_, _*_, _-_, _/_, _<_, _≤_}
-use lib.ListN.{length, getD, drop, take, length-set}
 use borrow.Author.Needs.{needs}
 use Rattle.terms.proofs.imul.Statement.{statement}
 use Rattle.terms.proofs.imul.Tie as tie
-use Rattle.terms.proofs.imul.Reads as reads
-use Rattle.terms.proofs.imul.Lts as lts
-use Rattle.terms.proofs.imul_fault.Reads as imul-fault-reads
-use Rattle.terms.proofs.rows.imul_unchecked.Reads as imul-unchecked-reads
 
 imul-fault-requires : tie.Need-imul-fault-requires
 imul-fault-requires c κs = search needs

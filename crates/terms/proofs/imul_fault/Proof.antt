@@ -1,17 +1,8 @@
 use Rattle.terms.proofs.Answers.{imul-told}
 use Rattle.encoding.specs.Set.{mem}
-use native.Mathlib.Omega.{arith}
-use mathlib.Core.Path.{_≡_, refl, sym, ap, _∙_}
-use Prim.Native.Nat.{ℕ, _+_, _*_, _-_, _/_, _<_, _≤_}
-use lib.ListN.{length, getD, drop, take, length-set}
 use borrow.Author.Needs.{needs}
 use Rattle.terms.proofs.imul_fault.Statement.{statement}
 use Rattle.terms.proofs.imul_fault.Tie as tie
-use Rattle.terms.proofs.imul_fault.Reads as reads
-use Rattle.terms.proofs.imul_fault.Lts as lts
-use Rattle.encoding.proofs.pick.Reads as pick-reads
-use Rattle.encoding.proofs.set_fault.Reads as set-fault-reads
-use Rattle.encoding.proofs.smaller.Reads as smaller-reads
 
 set-fault-requires : tie.Need-set-fault-requires
 set-fault-requires c κs = search needs

@@ -1,14 +1,7 @@
 use Rattle.terms.proofs.Answers.{ends-done, ends-full}
-use native.Mathlib.Omega.{arith}
-use mathlib.Core.Path.{_≡_, refl, sym, ap, _∙_}
-use Prim.Native.Nat.{ℕ, _+_, _*_, _-_, _/_, _<_, _≤_}
-use lib.ListN.{length, getD, drop, take, length-set}
 use borrow.Author.Needs.{needs}
 use Rattle.terms.proofs.reduced.Statement.{statement}
 use Rattle.terms.proofs.reduced.Tie as tie
-use Rattle.terms.proofs.reduced.Reads as reads
-use Rattle.terms.proofs.reduced.Lts as lts
-use Rattle.terms.proofs.reduce.columns.Reads as columns-reads
 
 columns-requires : tie.Need-columns-requires
 columns-requires c κs = search needs

@@ -1,15 +1,10 @@
 use Rattle.terms.proofs.Answers.{up-long, lists-all, leaves-all}
 use Rattle.encoding.specs.Limits.{maxQubits, maxRows}
 use native.Mathlib.Omega.{arith}
-use mathlib.Core.Path.{_≡_, refl, sym, ap, _∙_}
-use Prim.Native.Nat.{ℕ, _+_, _*_, _-_, _/_, _<_, _≤_}
-use lib.ListN.{length, getD, drop, take, length-set}
+use Prim.Native.Nat.{_+_}
 use borrow.Author.Needs.{needs}
 use Rattle.terms.proofs.reduced_by.Statement.{statement}
 use Rattle.terms.proofs.reduced_by.Tie as tie
-use Rattle.terms.proofs.reduced_by.Reads as reads
-use Rattle.terms.proofs.reduced_by.Lts as lts
-use Rattle.terms.proofs.reduced.Reads as reduced-reads
 
 add-k : tie.Need-add-k
 add-k c = search needs

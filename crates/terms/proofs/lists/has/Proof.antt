@@ -1,14 +1,11 @@
 use Rattle.reduction.specs.Lists.{has}
 use Rattle.terms.proofs.Scans.{has-here, has-next, has-end}
 use borrow.Author.Needs.{needs}
-use native.Mathlib.Omega.{arith}
-use mathlib.Core.Path.{_≡_, refl, sym, ap, _∙_}
-use Prim.Native.Nat.{ℕ, _+_, _*_, _-_, _/_, _<_, _≤_}
-use lib.ListN.{length, getD, drop, take, length-set}
+use mathlib.Core.Path.{_≡_, refl, sym, _∙_}
+use Prim.Native.Nat.{_-_}
+use lib.ListN.{length, drop}
 use Rattle.terms.proofs.lists.has.Statement.{statement}
 use Rattle.terms.proofs.lists.has.Tie as tie
-use Rattle.terms.proofs.lists.has.Reads as reads
-use Rattle.terms.proofs.lists.has.Lts as lts
 
 abbrev Inv-loop : tie.InvT-loop
 Inv-loop list i k j₀ j = has k (drop j list) ≡ has k (drop i list)
@@ -26,7 +23,8 @@ shared-slice-read-if1 : tie.Need-shared-slice-read-if1 Inv-loop μ-loop
 shared-slice-read-if1 c = search needs
 
 returns : tie.Need-returns Inv-loop μ-loop
-returns c = let s = c .before .before .before .before in
+returns c =
+    let s = c .before .before .before .before in
     let l = c .before .before .before .loop in
     sym (has-here (s .args .list .now) (s .args .k) (l .j) (c .before .before .loop-test .taken) (c .if1 .taken)) ∙ l .inv
 
@@ -37,12 +35,14 @@ loop-less : tie.Need-loop-less Inv-loop μ-loop
 loop-less c = search needs
 
 loop-again : tie.Need-loop-again Inv-loop μ-loop
-loop-again c = let s = c .before .before .before .before in
+loop-again c =
+    let s = c .before .before .before .before in
     let l = c .before .before .before .loop in
     has-next (s .args .list .now) (s .args .k) (l .j) (c .before .before .loop-test .taken) (c .if1 .left) ∙ l .inv
 
 returns-2 : tie.Need-returns-2 Inv-loop μ-loop
-returns-2 c = let a = c .before .before .args in
+returns-2 c =
+    let a = c .before .before .args in
     let l = c .before .loop in
     sym (has-end (a .list .now) (a .k) (l .j) (c .loop-test .left)) ∙ l .inv
 

@@ -1,16 +1,9 @@
 use Rattle.terms.proofs.Scans.{large-is, no-large, fault-6, fault-7}
 use mathlib.Core.Bool.{true, false}
-use native.Mathlib.Omega.{arith}
-use mathlib.Core.Path.{_≡_, refl, sym, ap, _∙_}
-use Prim.Native.Nat.{ℕ, _+_, _*_, _-_, _/_, _<_, _≤_}
-use lib.ListN.{length, getD, drop, take, length-set}
+use mathlib.Core.Path.{sym, _∙_}
 use borrow.Author.Needs.{needs}
 use Rattle.terms.proofs.lists.lists_fault.Statement.{statement}
 use Rattle.terms.proofs.lists.lists_fault.Tie as tie
-use Rattle.terms.proofs.lists.lists_fault.Reads as reads
-use Rattle.terms.proofs.lists.lists_fault.Lts as lts
-use Rattle.terms.proofs.lists.repeated.Reads as repeated-reads
-use Rattle.terms.proofs.lists.too_large.Reads as too-large-reads
 
 too-large-requires : tie.Need-too-large-requires
 too-large-requires c κs = search needs
@@ -22,19 +15,23 @@ too-large-requires-3 : tie.Need-too-large-requires-3
 too-large-requires-3 c κs = search needs
 
 returns : tie.Need-returns
-returns c = let a = c .before .before .before .before .before .before .before .args in
+returns c =
+    let a = c .before .before .before .before .before .before .before .args in
     fault-6 (a .n) (a .m) (a .order .now) (a .listed .now) (a .extra .now) (sym (large-is (a .n) (a .m) (a .order .now) (a .listed .now) (a .extra .now) (c .before .before .before .too-large .ensures) (c .before .before .too-large2 .ensures) (c .before .too-large3 .ensures)) ∙ c .if1 .taken)
 
 repeated-requires : tie.Need-repeated-requires
-repeated-requires c κs = let a = c .before .before .before .before .before .before .before .args in
+repeated-requires c κs =
+    let a = c .before .before .before .before .before .before .before .args in
     no-large (a .n) (a .m) (a .order .now) (a .listed .now) (a .extra .now) (sym (large-is (a .n) (a .m) (a .order .now) (a .listed .now) (a .extra .now) (c .before .before .before .too-large .ensures) (c .before .before .too-large2 .ensures) (c .before .too-large3 .ensures)) ∙ c .if1 .left) .1
 
 returns-2 : tie.Need-returns-2
-returns-2 c = let a = c .before .before .before .before .before .before .before .before .before .args in
+returns-2 c =
+    let a = c .before .before .before .before .before .before .before .before .before .args in
     fault-7 (a .n) (a .m) (a .order .now) (a .listed .now) (a .extra .now) true (sym (large-is (a .n) (a .m) (a .order .now) (a .listed .now) (a .extra .now) (c .before .before .before .before .before .too-large .ensures) (c .before .before .before .before .too-large2 .ensures) (c .before .before .before .too-large3 .ensures)) ∙ c .before .before .if1 .left) (sym (c .before .repeated .ensures) ∙ c .if2 .taken)
 
 returns-3 : tie.Need-returns-3
-returns-3 c = let a = c .before .before .before .before .before .before .before .before .before .args in
+returns-3 c =
+    let a = c .before .before .before .before .before .before .before .before .before .args in
     fault-7 (a .n) (a .m) (a .order .now) (a .listed .now) (a .extra .now) false (sym (large-is (a .n) (a .m) (a .order .now) (a .listed .now) (a .extra .now) (c .before .before .before .before .before .too-large .ensures) (c .before .before .before .before .too-large2 .ensures) (c .before .before .before .too-large3 .ensures)) ∙ c .before .before .if1 .left) (sym (c .before .repeated .ensures) ∙ c .if2 .left)
 
 pub lists-fault-spec : {M : Type 1} → statement M

@@ -1,13 +1,7 @@
 use Rattle.terms.proofs.Scans.{below-part, above-part}
-use borrow.Author.Needs.{needs}
 use native.Mathlib.Omega.{arith}
-use mathlib.Core.Path.{_≡_, refl, sym, ap, _∙_}
-use Prim.Native.Nat.{ℕ, _+_, _*_, _-_, _/_, _<_, _≤_}
-use lib.ListN.{length, getD, drop, take, length-set}
 use Rattle.terms.proofs.lists.reaches.Statement.{statement}
 use Rattle.terms.proofs.lists.reaches.Tie as tie
-use Rattle.terms.proofs.lists.reaches.Reads as reads
-use Rattle.terms.proofs.lists.reaches.Lts as lts
 
 returns : tie.Need-returns
 returns c = let a = c .before .args in below-part (a .a) (a .b) (a .k) (omega arith)

@@ -4,13 +4,10 @@ use mathlib.Core.Bool.{not}
 use borrow.Author.Needs.{needs}
 use native.Mathlib.Omega.{arith}
 use mathlib.Core.Path.{_≡_, refl, sym, ap, _∙_}
-use Prim.Native.Nat.{ℕ, _+_, _*_, _-_, _/_, _<_, _≤_}
-use lib.ListN.{length, getD, drop, take, length-set}
+use Prim.Native.Nat.{_-_, _≤_}
+use lib.ListN.{length, drop}
 use Rattle.terms.proofs.lists.repeated.Statement.{statement}
 use Rattle.terms.proofs.lists.repeated.Tie as tie
-use Rattle.terms.proofs.lists.repeated.Reads as reads
-use Rattle.terms.proofs.lists.repeated.Lts as lts
-use Rattle.terms.proofs.lists.has.Reads as has-reads
 
 abbrev Inv-loop : tie.InvT-loop
 Inv-loop list m i₀ i = (i ≤ length list) × (distinct (drop i list) ≡ distinct list)
@@ -37,7 +34,8 @@ has-requires : tie.Need-has-requires Inv-loop μ-loop
 has-requires c κs = search needs
 
 returns-2 : tie.Need-returns-2 Inv-loop μ-loop
-returns-2 c = let l = c .before .before .before .before .loop in
+returns-2 c =
+    let l = c .before .before .before .before .loop in
     let a = c .before .before .before .before .before .before .before .args in
     sym (ap not (sym (l .inv .1) ∙ repeat-here (a .list .now) (l .i) (omega arith) (sym (c .before .has .ensures) ∙ c .if2 .taken)))
 
@@ -48,12 +46,14 @@ loop-less : tie.Need-loop-less Inv-loop μ-loop
 loop-less c = search needs
 
 loop-again : tie.Need-loop-again Inv-loop μ-loop
-loop-again c = let l = c .before .before .before .before .loop in
+loop-again c =
+    let l = c .before .before .before .before .loop in
     let a = c .before .before .before .before .before .before .before .args in
     (omega arith, repeat-next (a .list .now) (l .i) (omega arith) (sym (c .before .has .ensures) ∙ c .if2 .left) ∙ l .inv .1)
 
 returns-3 : tie.Need-returns-3 Inv-loop μ-loop
-returns-3 c = let l = c .before .loop in
+returns-3 c =
+    let l = c .before .loop in
     let a = c .before .before .before .before .args in
     sym (ap not (sym (l .inv .1) ∙ repeat-end (a .list .now) (l .i) (omega arith)))
 

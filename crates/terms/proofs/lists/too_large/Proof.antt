@@ -2,14 +2,11 @@ use Rattle.encoding.proofs.Scan.{some-hit, some-more, some-end}
 use Rattle.encoding.specs.Refusals.{some, tooLarge}
 use borrow.Author.Needs.{needs}
 use native.Mathlib.Omega.{arith}
-use mathlib.Core.Path.{_≡_, refl, sym, ap, _∙_}
-use Prim.Native.Nat.{ℕ, _+_, _*_, _-_, _/_, _<_, _≤_}
-use lib.ListN.{length, getD, drop, take, length-set}
+use mathlib.Core.Path.{_≡_, refl, sym, _∙_}
+use Prim.Native.Nat.{_+_, _-_, _≤_}
+use lib.ListN.{length, drop}
 use Rattle.terms.proofs.lists.too_large.Statement.{statement}
 use Rattle.terms.proofs.lists.too_large.Tie as tie
-use Rattle.terms.proofs.lists.too_large.Reads as reads
-use Rattle.terms.proofs.lists.too_large.Lts as lts
-use Rattle.terms.proofs.lists.reaches.Reads as reaches-reads
 
 abbrev Inv-loop : tie.InvT-loop
 Inv-loop list a b i₀ i = (i ≤ length list) × (some (tooLarge (a + b)) (drop i list) ≡ some (tooLarge (a + b)) list)
@@ -33,7 +30,8 @@ reaches-requires : tie.Need-reaches-requires Inv-loop μ-loop
 reaches-requires c κs = search needs
 
 returns : tie.Need-returns Inv-loop μ-loop
-returns c = let a = c .before .before .before .before .before .before .args in
+returns c =
+    let a = c .before .before .before .before .before .before .args in
     let l = c .before .before .before .before .loop in
     sym (some-hit (tooLarge (a .a + a .b)) 0 (a .list .now) (l .i) (c .before .before .before .loop-test .taken) (sym (c .before .reaches .ensures) ∙ c .if1 .taken)) ∙ l .inv .1
 
@@ -44,12 +42,14 @@ loop-less : tie.Need-loop-less Inv-loop μ-loop
 loop-less c = search needs
 
 loop-again : tie.Need-loop-again Inv-loop μ-loop
-loop-again c = let a = c .before .before .before .before .before .before .args in
+loop-again c =
+    let a = c .before .before .before .before .before .before .args in
     let l = c .before .before .before .before .loop in
     (omega arith, some-more (tooLarge (a .a + a .b)) 0 (a .list .now) (l .i) (c .before .before .before .loop-test .taken) (sym (c .before .reaches .ensures) ∙ c .if1 .left) ∙ l .inv .1)
 
 returns-2 : tie.Need-returns-2 Inv-loop μ-loop
-returns-2 c = let a = c .before .before .before .args in
+returns-2 c =
+    let a = c .before .before .before .args in
     let l = c .before .loop in
     sym (some-end (tooLarge (a .a + a .b)) 0 (a .list .now) (l .i) (c .loop-test .left)) ∙ l .inv .1
 

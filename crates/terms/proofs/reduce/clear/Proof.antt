@@ -6,14 +6,11 @@ use Rattle.encoding.specs.Set.{mem}
 use Rattle.pauli.specs.Row.{mulRow, bitRow}
 use borrow.Author.Needs.{needs}
 use native.Mathlib.Omega.{arith}
-use mathlib.Core.Path.{_≡_, refl, sym, ap, _∙_}
-use Prim.Native.Nat.{ℕ, _+_, _*_, _-_, _/_, _<_, _≤_}
-use lib.ListN.{length, getD, drop, take, length-set}
+use mathlib.Core.Path.{ap, _∙_}
+use Prim.Native.Nat.{_-_, _/_}
+use lib.ListN.{length, getD}
 use Rattle.terms.proofs.reduce.clear.Statement.{statement}
 use Rattle.terms.proofs.reduce.clear.Tie as tie
-use Rattle.terms.proofs.reduce.clear.Reads as reads
-use Rattle.terms.proofs.reduce.clear.Lts as lts
-use Rattle.terms.proofs.reduce.turn.Reads as turn-reads
 
 abbrev Inv-loop : tie.InvT-loop
 Inv-loop n x₀ z₀ p₀ log₀ list c pivot r₀ i₀ x z p log r i = Going n (turnC (bitRow n) (mulRow n) (capacity log₀) c pivot) list (mem x₀ z₀ p₀) log₀ r₀ (mem x z p) log r i
@@ -31,7 +28,8 @@ shared-slice-read-turn : tie.Need-shared-slice-read-turn Inv-loop μ-loop
 shared-slice-read-turn c = search needs
 
 turn-requires : tie.Need-turn-requires Inv-loop μ-loop
-turn-requires c κs = let s = c .before .before .before .before .before .before .before .before .before .before .before .before in
+turn-requires c κs =
+    let s = c .before .before .before .before .before .before .before .before .before .before .before .before in
     let l = c .before .before .before .before .before .before .loop in
     (l .inv .ready, (s .pre .1 .0, omega (arith, l .inv .keeps .e-len, s .pre .1 .1), omega (arith, l .inv .keeps .e-len, s .pre .1 .2 (l .i) (omega arith))))
 
@@ -48,7 +46,8 @@ same-length-4 : tie.Need-same-length-4 Inv-loop μ-loop
 same-length-4 c = c .before .before .before .before .before .before .before .before .before .turn .ensures .log-len ∙ c .before .before .before .before .before .before .before .before .before .before .before .before .before .before .before .before .loop .inv .log-len
 
 returns : tie.Need-returns Inv-loop μ-loop
-returns c = let a = c .before .before .before .before .before .before .before .before .before .before .before .before .before .before .before .before .before .before .before .before .before .before .args in
+returns c =
+    let a = c .before .before .before .before .before .before .before .before .before .before .before .before .before .before .before .before .before .before .before .before .before .before .args in
     let l = c .before .before .before .before .before .before .before .before .before .before .before .before .before .before .before .before .loop in
     going-full (l .inv) (omega arith) (c .if1 .taken) (does-as (ap (λ m. turnC (bitRow (a .n)) (mulRow (a .n)) (m / 2) (a .c) (a .pivot) (getD (a .list .now) (l .i) 0) (runOf (a .n) (mem (l .x) (l .z) (l .p)) (l .log) (l .r))) (l .inv .log-len)) (c .before .before .before .before .before .before .before .before .before .turn .ensures))
 
@@ -59,7 +58,8 @@ loop-less : tie.Need-loop-less Inv-loop μ-loop
 loop-less c = search needs
 
 loop-again : tie.Need-loop-again Inv-loop μ-loop
-loop-again c = let a = c .before .before .before .before .before .before .before .before .before .before .before .before .before .before .before .before .before .before .before .before .before .before .args in
+loop-again c =
+    let a = c .before .before .before .before .before .before .before .before .before .before .before .before .before .before .before .before .before .before .before .before .before .before .args in
     let l = c .before .before .before .before .before .before .before .before .before .before .before .before .before .before .before .before .loop in
     going-next (l .inv) (omega arith) (c .if1 .left) (does-as (ap (λ m. turnC (bitRow (a .n)) (mulRow (a .n)) (m / 2) (a .c) (a .pivot) (getD (a .list .now) (l .i) 0) (runOf (a .n) (mem (l .x) (l .z) (l .p)) (l .log) (l .r))) (l .inv .log-len)) (c .before .before .before .before .before .before .before .before .before .turn .ensures))
 

@@ -6,15 +6,11 @@ use Rattle.reduction.specs.Log.{capacity}
 use Rattle.encoding.specs.Set.{mem}
 use Rattle.pauli.specs.Row.{mulRow, bitRow}
 use native.Mathlib.Omega.{arith}
-use mathlib.Core.Path.{_≡_, refl, sym, ap, _∙_}
-use Prim.Native.Nat.{ℕ, _+_, _*_, _-_, _/_, _<_, _≤_}
-use lib.ListN.{length, getD, drop, take, length-set}
+use mathlib.Core.Path.{ap}
+use Prim.Native.Nat.{_/_}
 use borrow.Author.Needs.{needs}
 use Rattle.terms.proofs.reduce.clear_both.Statement.{statement}
 use Rattle.terms.proofs.reduce.clear_both.Tie as tie
-use Rattle.terms.proofs.reduce.clear_both.Reads as reads
-use Rattle.terms.proofs.reduce.clear_both.Lts as lts
-use Rattle.terms.proofs.reduce.clear.Reads as clear-reads
 
 clear-requires : tie.Need-clear-requires
 clear-requires c κs = search needs
@@ -32,12 +28,14 @@ same-length-4 : tie.Need-same-length-4
 same-length-4 c = search needs
 
 returns : tie.Need-returns
-returns c = let a = c .before .before .before .before .before .before .before .before .before .before .before .before .before .before .before .before .before .before .before .before .args in
+returns c =
+    let a = c .before .before .before .before .before .before .before .before .before .before .before .before .before .before .before .before .before .before .before .before .args in
     does-as (through-append (turnC (bitRow (a .n)) (mulRow (a .n)) (capacity (a .log .now)) (a .c) (a .pivot)) (a .listed .now) (a .extra .now) (runOf (a .n) (mem (a .x .now) (a .z .now) (a .p .now)) (a .log .now) (a .s)))
     (does-full (λ r. through (turnC (bitRow (a .n)) (mulRow (a .n)) (capacity (a .log .now)) (a .c) (a .pivot)) (a .extra .now) r) (c .before .before .before .before .before .before .before .before .before .clear .ensures) (c .if1 .taken))
 
 clear-requires-2 : tie.Need-clear-requires-2
-clear-requires-2 c κs = let s = c .before .before .before .before .before .before .before .before .before .before .before .before .before .before .before .before .before .before .before .before .before .before .before .before in
+clear-requires-2 c κs =
+    let s = c .before .before .before .before .before .before .before .before .before .before .before .before .before .before .before .before .before .before .before .before .before .before .before .before in
     let h = s .pre .1 in
     let d = c .before .before .before .before .before .before .before .before .before .before .before .before .before .clear .ensures in
     (ready-next d (c .before .before .before .before .if1 .left), (h .0, omega (arith, d .keeps .e-len, h .1), λ i hi. omega (arith, d .keeps .e-len, h .3 i hi)))
@@ -55,7 +53,8 @@ same-length-8 : tie.Need-same-length-8
 same-length-8 c = search needs
 
 returns-2 : tie.Need-returns-2
-returns-2 c = let a = c .before .before .before .before .before .before .before .before .before .before .before .before .before .before .before .before .before .before .before .before .before .before .before .before .before .before .before .before .before .before .before .before .before .args in
+returns-2 c =
+    let a = c .before .before .before .before .before .before .before .before .before .before .before .before .before .before .before .before .before .before .before .before .before .before .before .before .before .before .before .before .before .before .before .before .before .args in
     let d = c .before .before .before .before .before .before .before .before .before .before .before .before .before .before .before .before .before .before .before .before .before .before .clear in
     let same = ap (λ m. through (turnC (bitRow (a .n)) (mulRow (a .n)) (m / 2) (a .c) (a .pivot)) (a .extra .now) (runOf (a .n) (mem (d .last .1 .0) (d .last .1 .1 .0) (d .last .1 .1 .1 .0)) (d .last .1 .1 .1 .1 .0) (d .result))) (d .ensures .log-len) in
     does-as (through-append (turnC (bitRow (a .n)) (mulRow (a .n)) (capacity (a .log .now)) (a .c) (a .pivot)) (a .listed .now) (a .extra .now) (runOf (a .n) (mem (a .x .now) (a .z .now) (a .p .now)) (a .log .now) (a .s)))

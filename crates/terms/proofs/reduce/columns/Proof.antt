@@ -6,14 +6,11 @@ use Rattle.encoding.specs.Set.{mem}
 use Rattle.pauli.specs.Row.{mulRow, bitRow}
 use borrow.Author.Needs.{needs}
 use native.Mathlib.Omega.{arith}
-use mathlib.Core.Path.{_≡_, refl, sym, ap, _∙_}
-use Prim.Native.Nat.{ℕ, _+_, _*_, _-_, _/_, _<_, _≤_}
-use lib.ListN.{length, getD, drop, take, length-set}
+use mathlib.Core.Path.{refl, ap, _∙_}
+use Prim.Native.Nat.{_-_, _/_, _≤_}
+use lib.ListN.{length, getD}
 use Rattle.terms.proofs.reduce.columns.Statement.{statement}
 use Rattle.terms.proofs.reduce.columns.Tie as tie
-use Rattle.terms.proofs.reduce.columns.Reads as reads
-use Rattle.terms.proofs.reduce.columns.Lts as lts
-use Rattle.terms.proofs.reduce.column.Reads as column-reads
 
 abbrev Inv-loop : tie.InvT-loop
 Inv-loop n x₀ z₀ p₀ log₀ order listed extra r₀ i₀ x z p log r i = (r .t ≤ length listed) × Going n (columnC (bitRow n) (mulRow n) (capacity log₀) listed extra) order (mem x₀ z₀ p₀) log₀ start (mem x z p) log r i
@@ -34,7 +31,8 @@ cast-c : tie.Need-cast-c Inv-loop μ-loop
 cast-c c = omega (arith, c .shared-slice-known4 .given (c .before .before .loop .i))
 
 column-requires : tie.Need-column-requires Inv-loop μ-loop
-column-requires c κs = let s = c .before .before .before .before .before .before .before .before .before .before .before .before .before .before in
+column-requires c κs =
+    let s = c .before .before .before .before .before .before .before .before .before .before .before .before .before .before in
     let h = s .pre .1 in
     let l = c .before .before .before .before .before .before .loop in
     let many = l .inv .1 .keeps .e-len in
@@ -53,7 +51,8 @@ same-length-4 : tie.Need-same-length-4 Inv-loop μ-loop
 same-length-4 c = c .before .before .before .before .before .before .before .before .before .column .ensures .1 .log-len ∙ c .before .before .before .before .before .before .before .before .before .before .before .before .before .before .before .before .loop .inv .1 .log-len
 
 returns : tie.Need-returns Inv-loop μ-loop
-returns c = let a = c .before .before .before .before .before .before .before .before .before .before .before .before .before .before .before .before .before .before .before .before .before .before .before .before .args in
+returns c =
+    let a = c .before .before .before .before .before .before .before .before .before .before .before .before .before .before .before .before .before .before .before .before .before .before .before .before .args in
     let l = c .before .before .before .before .before .before .before .before .before .before .before .before .before .before .before .before .loop in
     going-full (l .inv .1) (omega arith) (c .if1 .taken) (does-as (ap (λ m. columnC (bitRow (a .n)) (mulRow (a .n)) (m / 2) (a .listed .now) (a .extra .now) (getD (a .order .now) (l .i) 0) (runOf (a .n) (mem (l .x) (l .z) (l .p)) (l .log) (l .r))) (l .inv .1 .log-len)) (c .before .before .before .before .before .before .before .before .before .column .ensures .1))
 
@@ -64,7 +63,8 @@ loop-less : tie.Need-loop-less Inv-loop μ-loop
 loop-less c = omega (arith, c .before .before .before .before .before .before .before .before .before .before .before .before .before .before .before .loop-test .taken)
 
 loop-again : tie.Need-loop-again Inv-loop μ-loop
-loop-again c = let a = c .before .before .before .before .before .before .before .before .before .before .before .before .before .before .before .before .before .before .before .before .before .before .before .before .args in
+loop-again c =
+    let a = c .before .before .before .before .before .before .before .before .before .before .before .before .before .before .before .before .before .before .before .before .before .before .before .before .args in
     let l = c .before .before .before .before .before .before .before .before .before .before .before .before .before .before .before .before .loop in
     (c .before .before .before .before .before .before .before .before .before .column .ensures .0, going-next (l .inv .1) (omega arith) (c .if1 .left) (does-as (ap (λ m. columnC (bitRow (a .n)) (mulRow (a .n)) (m / 2) (a .listed .now) (a .extra .now) (getD (a .order .now) (l .i) 0) (runOf (a .n) (mem (l .x) (l .z) (l .p)) (l .log) (l .r))) (l .inv .1 .log-len)) (c .before .before .before .before .before .before .before .before .before .column .ensures .1)))
 

@@ -1,14 +1,7 @@
 use Rattle.terms.proofs.Pieces.{lead-same, lead-other}
-use native.Mathlib.Omega.{arith}
-use mathlib.Core.Path.{_≡_, refl, sym, ap, _∙_}
-use Prim.Native.Nat.{ℕ, _+_, _*_, _-_, _/_, _<_, _≤_}
-use lib.ListN.{length, getD, drop, take, length-set}
 use borrow.Author.Needs.{needs}
 use Rattle.terms.proofs.reduce.lead.Statement.{statement}
 use Rattle.terms.proofs.reduce.lead.Tie as tie
-use Rattle.terms.proofs.reduce.lead.Reads as reads
-use Rattle.terms.proofs.reduce.lead.Lts as lts
-use Rattle.terms.proofs.reduce.put.Reads as put-reads
 
 returns : tie.Need-returns
 returns c = let s = c .before .before .before .before .before in lead-same (s .pre .0) (s .args .pivot) (s .args .found) (c .if1 .taken)

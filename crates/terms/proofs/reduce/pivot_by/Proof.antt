@@ -6,16 +6,11 @@ use mathlib.Core.List.{_++_}
 use Rattle.encoding.specs.Set.{mem}
 use Rattle.pauli.specs.Row.{mulRow, bitRow}
 use native.Mathlib.Omega.{arith}
-use mathlib.Core.Path.{_≡_, refl, sym, ap, _∙_}
-use Prim.Native.Nat.{ℕ, _+_, _*_, _-_, _/_, _<_, _≤_}
-use lib.ListN.{length, getD, drop, take, length-set}
+use mathlib.Core.Path.{ap}
+use Prim.Native.Nat.{_/_}
 use borrow.Author.Needs.{needs}
 use Rattle.terms.proofs.reduce.pivot_by.Statement.{statement}
 use Rattle.terms.proofs.reduce.pivot_by.Tie as tie
-use Rattle.terms.proofs.reduce.pivot_by.Reads as reads
-use Rattle.terms.proofs.reduce.pivot_by.Lts as lts
-use Rattle.terms.proofs.reduce.clear_both.Reads as clear-both-reads
-use Rattle.terms.proofs.reduce.lead.Reads as lead-reads
 
 lead-requires : tie.Need-lead-requires
 lead-requires c κs = search needs
@@ -34,11 +29,13 @@ same-length-4 c = search needs
 
 returns : tie.Need-returns
 unfolding pivotC
-returns c = let a = c .before .before .before .before .before .before .before .before .before .before .before .before .before .before .before .before .before .before .before .before .args in
+returns c =
+    let a = c .before .before .before .before .before .before .before .before .before .before .before .before .before .before .before .before .before .before .before .before .args in
     does-full (λ r. through (turnC (bitRow (a .n)) (mulRow (a .n)) (capacity (a .log .now)) (a .c) (a .pivot)) (a .listed .now ++ a .extra .now) r) (c .before .before .before .before .before .before .before .before .before .lead .ensures) (c .if1 .taken)
 
 clear-both-requires : tie.Need-clear-both-requires
-clear-both-requires c κs = let s = c .before .before .before .before .before .before .before .before .before .before .before .before .before .before .before .before .before .before .before .before .before .before .before .before in
+clear-both-requires c κs =
+    let s = c .before .before .before .before .before .before .before .before .before .before .before .before .before .before .before .before .before .before .before .before .before .before .before .before in
     let h = s .pre .1 in
     let d = c .before .before .before .before .before .before .before .before .before .before .before .before .before .lead .ensures in
     (ready-next d (c .before .before .before .before .if1 .left), (h .0, omega (arith, d .keeps .e-len, h .1), λ i hi. omega (arith, d .keeps .e-len, h .3 i hi), λ i hi. omega (arith, d .keeps .e-len, h .4 i hi)))
@@ -57,7 +54,8 @@ same-length-8 c = search needs
 
 returns-2 : tie.Need-returns-2
 unfolding pivotC
-returns-2 c = let a = c .before .before .before .before .before .before .before .before .before .before .before .before .before .before .before .before .before .before .before .before .before .before .before .before .before .before .before .before .before .before .before .before .before .args in
+returns-2 c =
+    let a = c .before .before .before .before .before .before .before .before .before .before .before .before .before .before .before .before .before .before .before .before .before .before .before .before .before .before .before .before .before .before .before .before .before .args in
     let d = c .before .before .before .before .before .before .before .before .before .before .before .before .before .before .before .before .before .before .before .before .before .before .lead in
     let same = ap (λ m. through (turnC (bitRow (a .n)) (mulRow (a .n)) (m / 2) (a .c) (a .pivot)) (a .listed .now ++ a .extra .now) (runOf (a .n) (mem (d .last .1 .0) (d .last .1 .1 .0) (d .last .1 .1 .1 .0)) (d .last .1 .1 .1 .1 .0) (d .result))) (d .ensures .log-len) in
     does-then (d .ensures) (c .before .before .before .before .before .before .before .before .before .before .before .before .before .if1 .left) (does-as same (c .before .before .before .before .before .before .before .before .clear-both .ensures))

@@ -1,14 +1,9 @@
 use Rattle.terms.proofs.Steps.{put-full, put-done}
 use native.Mathlib.Omega.{arith}
-use mathlib.Core.Path.{_≡_, refl, sym, ap, _∙_}
-use Prim.Native.Nat.{ℕ, _+_, _*_, _-_, _/_, _<_, _≤_}
-use lib.ListN.{length, getD, drop, take, length-set}
+use lib.ListN.{length-set}
 use borrow.Author.Needs.{needs}
 use Rattle.terms.proofs.reduce.put.Statement.{statement}
 use Rattle.terms.proofs.reduce.put.Tie as tie
-use Rattle.terms.proofs.reduce.put.Reads as reads
-use Rattle.terms.proofs.reduce.put.Lts as lts
-use Rattle.terms.proofs.rows.imul_unchecked.Reads as imul-unchecked-reads
 
 returns : tie.Need-returns
 returns c = let s = c .before .before .before .before .before in put-full (s .pre .0) (s .args .a) (s .args .b) (omega arith)

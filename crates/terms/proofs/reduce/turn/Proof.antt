@@ -1,15 +1,8 @@
 use Rattle.terms.proofs.Pieces.{turn-same, turn-zero, turn-one}
-use native.Mathlib.Omega.{arith}
-use mathlib.Core.Path.{_≡_, refl, sym, ap, _∙_}
-use Prim.Native.Nat.{ℕ, _+_, _*_, _-_, _/_, _<_, _≤_}
-use lib.ListN.{length, getD, drop, take, length-set}
+use mathlib.Core.Path.{sym, _∙_}
 use borrow.Author.Needs.{needs}
 use Rattle.terms.proofs.reduce.turn.Statement.{statement}
 use Rattle.terms.proofs.reduce.turn.Tie as tie
-use Rattle.terms.proofs.reduce.turn.Reads as reads
-use Rattle.terms.proofs.reduce.turn.Lts as lts
-use Rattle.terms.proofs.reduce.put.Reads as put-reads
-use Rattle.terms.proofs.rows.get_bit.Reads as get-bit-reads
 
 returns : tie.Need-returns
 returns c = let s = c .before .before .before .before .before in turn-same (s .pre .0) (s .args .c) (s .args .pivot) (s .args .k) (c .if1 .taken)

@@ -2,14 +2,11 @@ use Rattle.terms.proofs.Columns.{place-here, place-next, place-end}
 use Rattle.terms.specs.Leaves.{bitIn, firstPlace}
 use borrow.Author.Needs.{needs}
 use native.Mathlib.Omega.{arith}
-use mathlib.Core.Path.{_≡_, refl, sym, ap, _∙_}
-use Prim.Native.Nat.{ℕ, _+_, _*_, _-_, _/_, _<_, _≤_}
-use lib.ListN.{length, getD, drop, take, length-set}
+use mathlib.Core.Path.{_≡_, refl, sym, _∙_}
+use Prim.Native.Nat.{_+_, _-_}
+use lib.ListN.{length, drop}
 use Rattle.terms.proofs.rows.find.Statement.{statement}
 use Rattle.terms.proofs.rows.find.Tie as tie
-use Rattle.terms.proofs.rows.find.Reads as reads
-use Rattle.terms.proofs.rows.find.Lts as lts
-use Rattle.terms.proofs.rows.get_bit.Reads as get-bit-reads
 
 abbrev Inv-loop : tie.InvT-loop
 Inv-loop n x z listed t c i₀ i = i + firstPlace (λ k. bitIn n x z k c) (drop i listed) ≡ t + firstPlace (λ k. bitIn n x z k c) (drop t listed)
@@ -33,7 +30,8 @@ get-bit-requires : tie.Need-get-bit-requires Inv-loop μ-loop
 get-bit-requires c κs = search needs
 
 returns : tie.Need-returns Inv-loop μ-loop
-returns c = let a = c .before .before .before .before .before .before .before .before .args in
+returns c =
+    let a = c .before .before .before .before .before .before .before .before .args in
     let l = c .before .before .before .before .loop in
     omega (arith, l .inv, place-here (λ k. bitIn (a .n) (a .x .now) (a .z .now) k (a .c)) (a .listed .now) (l .i) (c .before .before .before .loop-test .taken) (sym (c .before .get-bit .ensures) ∙ c .if1 .taken))
 
@@ -44,12 +42,14 @@ loop-less : tie.Need-loop-less Inv-loop μ-loop
 loop-less c = search needs
 
 loop-again : tie.Need-loop-again Inv-loop μ-loop
-loop-again c = let a = c .before .before .before .before .before .before .before .before .args in
+loop-again c =
+    let a = c .before .before .before .before .before .before .before .before .args in
     let l = c .before .before .before .before .loop in
     omega (arith, l .inv, place-next (λ k. bitIn (a .n) (a .x .now) (a .z .now) k (a .c)) (a .listed .now) (l .i) (c .before .before .before .loop-test .taken) (sym (c .before .get-bit .ensures) ∙ c .if1 .left))
 
 returns-2 : tie.Need-returns-2 Inv-loop μ-loop
-returns-2 c = let a = c .before .before .before .before .before .args in
+returns-2 c =
+    let a = c .before .before .before .before .before .args in
     let l = c .before .loop in
     omega (arith, l .inv, place-end (λ k. bitIn (a .n) (a .x .now) (a .z .now) k (a .c)) (a .listed .now) (l .i) (c .loop-test .left))
 

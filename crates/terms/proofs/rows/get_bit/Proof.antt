@@ -1,15 +1,8 @@
 use Rattle.terms.proofs.Columns.{bit-many, bit-far, bit-x, bit-z}
 use native.Mathlib.Omega.{arith}
-use mathlib.Core.Path.{_≡_, refl, sym, ap, _∙_}
-use Prim.Native.Nat.{ℕ, _+_, _*_, _-_, _/_, _<_, _≤_}
-use lib.ListN.{length, getD, drop, take, length-set}
 use borrow.Author.Needs.{needs}
 use Rattle.terms.proofs.rows.get_bit.Statement.{statement}
 use Rattle.terms.proofs.rows.get_bit.Tie as tie
-use Rattle.terms.proofs.rows.get_bit.Reads as reads
-use Rattle.terms.proofs.rows.get_bit.Lts as lts
-use Rattle.encoding.proofs.words.Reads as words-reads
-use Rattle.terms.proofs.rows.row_bit.Reads as row-bit-reads
 
 returns : tie.Need-returns
 returns c = let a = c .before .before .before .args in bit-many (a .n) (a .x .now) (a .z .now) (a .k .0) (a .c) (omega arith)

@@ -1,17 +1,10 @@
 use Rattle.encoding.specs.Set.{mem}
 use Rattle.terms.proofs.InSet.{no-shape, no-a, no-b, in-rows, becomes}
 use native.Mathlib.Omega.{arith}
-use mathlib.Core.Path.{_≡_, refl, sym, ap, _∙_}
-use Prim.Native.Nat.{ℕ, _+_, _*_, _-_, _/_, _<_, _≤_}
-use lib.ListN.{length, getD, drop, take, length-set}
+use mathlib.Core.Path.{sym, _∙_}
 use borrow.Author.Needs.{needs}
 use Rattle.terms.proofs.rows.imul_unchecked.Statement.{statement}
 use Rattle.terms.proofs.rows.imul_unchecked.Tie as tie
-use Rattle.terms.proofs.rows.imul_unchecked.Reads as reads
-use Rattle.terms.proofs.rows.imul_unchecked.Lts as lts
-use Rattle.encoding.proofs.out_fault.Reads as out-fault-reads
-use Rattle.encoding.proofs.words.Reads as words-reads
-use Rattle.terms.proofs.rows.mul_rows.Reads as mul-rows-reads
 
 out-fault-requires : tie.Need-out-fault-requires
 out-fault-requires c κs = search needs

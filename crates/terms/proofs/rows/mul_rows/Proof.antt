@@ -1,16 +1,9 @@
 use Rattle.terms.proofs.InSet.{rows-multiplied}
 use Rattle.terms.proofs.Columns.{small-start}
 use native.Mathlib.Omega.{arith}
-use mathlib.Core.Path.{_≡_, refl, sym, ap, _∙_}
-use Prim.Native.Nat.{ℕ, _+_, _*_, _-_, _/_, _<_, _≤_}
-use lib.ListN.{length, getD, drop, take, length-set}
 use borrow.Author.Needs.{needs}
 use Rattle.terms.proofs.rows.mul_rows.Statement.{statement}
 use Rattle.terms.proofs.rows.mul_rows.Tie as tie
-use Rattle.terms.proofs.rows.mul_rows.Reads as reads
-use Rattle.terms.proofs.rows.mul_rows.Lts as lts
-use Rattle.products.proofs.imul_op_op.Reads as imul-op-op-reads
-use Rattle.terms.proofs.rows.add_signs.Reads as add-signs-reads
 
 mul-imul-op-op : tie.Need-mul-imul-op-op
 mul-imul-op-op c = let s = c .before .before .before .before .before in omega (arith, small-start (s .args .a) (s .args .w) (omega (arith, s .pre .a-in, s .pre .few)) (s .pre .narrow))

@@ -1,14 +1,9 @@
 use Rattle.terms.proofs.Columns.{small-start, past-row, in-row}
 use native.Mathlib.Omega.{arith}
-use mathlib.Core.Path.{_≡_, refl, sym, ap, _∙_}
-use Prim.Native.Nat.{ℕ, _+_, _*_, _-_, _/_, _<_, _≤_}
-use lib.ListN.{length, getD, drop, take, length-set}
+use mathlib.Core.Path.{_∙_}
 use borrow.Author.Needs.{needs}
 use Rattle.terms.proofs.rows.row_bit.Statement.{statement}
 use Rattle.terms.proofs.rows.row_bit.Tie as tie
-use Rattle.terms.proofs.rows.row_bit.Reads as reads
-use Rattle.terms.proofs.rows.row_bit.Lts as lts
-use Rattle.encoding.proofs.bit_in.Reads as bit-in-reads
 
 returns : tie.Need-returns
 returns c = let a = c .before .before .args in past-row (a .w) (a .k) (a .q) (a .x .now) (omega arith)

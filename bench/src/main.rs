@@ -1,0 +1,192 @@
+//! Prints a table of times: the calls of this repository, from the archive of the crate `speed`, and the Rust's, on the
+//! same random rows, in one process. Before a call is timed both sides do it once, and what they leave is compared.
+
+#[path = "../../oracle/src/fields.rs"]
+#[allow(dead_code)]
+mod fields;
+mod ours;
+#[path = "../../compare/src/random.rs"]
+#[allow(dead_code)]
+mod random;
+mod rows;
+mod table;
+
+use std::hint::black_box;
+
+use oracle::container::coeffs::complex_sign::ComplexSign;
+use oracle::container::traits::{Elements, RefElements};
+use oracle::container::word_iters::WordIters;
+use oracle::qubit::mode::Qubits;
+use oracle::qubit::pauli::cmpnt_major::mat_elem::mat_elem_cmpnts_from_presorted;
+use oracle::qubit::pauli::cmpnt_major::terms::{AsViewMut, Terms};
+use oracle::qubit::state::cmpnt_list::CmpntList as StateList;
+
+use random::Random;
+use rows::{Operator, Set};
+use table::{line, time, Side};
+
+const QUBITS: usize = 1024;
+const TERMS: usize = 65_536;
+
+fn main() {
+    let mut random = Random::of(1, 0);
+    table::header();
+    for m in [64, 256] {
+        matrix(&Set::random(&mut random, QUBITS, m));
+    }
+    for m in [64, 256] {
+        pairwise(&Set::random(&mut random, QUBITS, m), &Set::random(&mut random, QUBITS, m));
+    }
+    for m in [64, 256] {
+        in_place(&Set::random(&mut random, QUBITS, m));
+    }
+    reduction(&Set::random(&mut random, QUBITS, 256));
+    for block in [TERMS, 16] {
+        element(&mut random, block);
+    }
+}
+
+/// The rows and phases of a set and of the Rust's, as text.
+fn text(set: &Set) -> String {
+    fields::set_text(&set.terms())
+}
+
+fn agree(name: &str, ours: String, rust: String) {
+    if ours != rust {
+        eprintln!("bench: {name}: the two sides do not agree");
+        std::process::exit(1);
+    }
+}
+
+fn size(set: &Set) -> String {
+    format!("{} rows of {} qubits", set.phases.len(), set.n)
+}
+
+fn matrix(set: &Set) {
+    let name = "compatibility_matrix";
+    let m = set.phases.len();
+    let rust = set.terms().word_iters;
+    let mut out = vec![!0; m * m.div_ceil(64)];
+    assert_eq!(ours::compatibility_matrix(set, &mut out), 0);
+    let matrix = rust.compatibility_matrix();
+    agree(name, fields::hex(out.iter().copied()), fields::hex((0..m).flat_map(|i| matrix[i].to_vec())));
+    let calls = 65_536 / (m * m);
+    line(
+        name,
+        &size(set),
+        Side(calls, || {
+            time(|| (0..calls).for_each(|_| assert_eq!(ours::compatibility_matrix(black_box(set), &mut out), 0)))
+        }),
+        Side(calls, || time(|| (0..calls).for_each(|_| drop(black_box(black_box(&rust).compatibility_matrix()))))),
+    );
+}
+
+fn pairwise(left: &Set, right: &Set) {
+    let name = "cmpnts_mul_pairwise";
+    let m = left.phases.len();
+    let (rust_left, rust_right) = (left.terms().word_iters, right.terms().word_iters);
+    let mut out = Set { n: left.n, x: vec![!0; left.x.len()], z: vec![!0; left.z.len()], phases: vec![!0; m] };
+    assert_eq!(ours::cmpnts_mul_pairwise(left, right, &mut out), 0);
+    let (rows, phases) = rust_left.cmpnts_mul_pairwise(&rust_right).unwrap();
+    agree(name, text(&out), format!("{} {}", fields::rows_text(&rows), fields::phases_text(&phases)));
+    let calls = 25_600 / m;
+    line(
+        name,
+        &size(left),
+        Side(calls, || {
+            time(|| {
+                for _ in 0..calls {
+                    assert_eq!(ours::cmpnts_mul_pairwise(black_box(left), black_box(right), &mut out), 0);
+                }
+            })
+        }),
+        Side(calls, || {
+            time(|| {
+                for _ in 0..calls {
+                    drop(black_box(black_box(&rust_left).cmpnts_mul_pairwise(black_box(&rust_right)).unwrap()));
+                }
+            })
+        }),
+    );
+}
+
+/// Each row times the next one, all around.
+fn in_place(set: &Set) {
+    let name = "imul";
+    let m = set.phases.len();
+    let (mut ours, mut rust) = (set.clone(), set.terms());
+    let sweep = |set: &mut Set| (0..m).for_each(|i| assert_eq!(ours::imul(set, black_box(i), (i + 1) % m), 0));
+    let rust_sweep = |set: &mut Terms<ComplexSign>| (0..m).for_each(|i| set.imul(black_box(i), (i + 1) % m));
+    sweep(&mut ours);
+    rust_sweep(&mut rust);
+    agree(name, text(&ours), fields::set_text(&rust));
+    let sweeps = 25_600 / m;
+    line(
+        name,
+        &size(set),
+        Side(sweeps * m, || time(|| (0..sweeps).for_each(|_| sweep(black_box(&mut ours))))),
+        Side(sweeps * m, || time(|| (0..sweeps).for_each(|_| rust_sweep(black_box(&mut rust))))),
+    );
+}
+
+fn reduction(set: &Set) {
+    let name = "canonicalize_all";
+    let m = set.phases.len();
+    // room for the most entries that the rule can need
+    let mut log = vec![0; 2 * m * m];
+    let (mut ours, mut rust) = (set.clone(), set.terms());
+    let (code, entries, _) = ours::canonicalize_all(&mut ours, &mut log);
+    assert_eq!(code, 0);
+    let pairs = log[..2 * entries].chunks(2).map(|pair| (pair[0] as usize, pair[1] as usize)).collect::<Vec<_>>();
+    let rust_pairs = rust.canonicalize_all();
+    let whole = |pairs: &[(usize, usize)], rows: String| format!("{} {rows}", fields::log_text(pairs));
+    agree(name, whole(&pairs, text(&ours)), whole(&rust_pairs, fields::set_text(&rust)));
+    let start = set.terms();
+    line(
+        name,
+        &size(set),
+        Side(1, || {
+            let mut rows = set.clone();
+            time(|| assert_eq!(ours::canonicalize_all(black_box(&mut rows), &mut log).0, 0))
+        }),
+        Side(1, || {
+            let mut rows = start.clone();
+            time(|| drop(black_box(black_box(&mut rows).canonicalize_all())))
+        }),
+    );
+}
+
+/// The element of the block in the middle.
+fn element(random: &mut Random, block: usize) {
+    let name = "mat_elem_cmpnts_from_presorted";
+    let op = Operator::random(random, TERMS, block);
+    let (terms, blocks) = op.terms();
+    let ket = random.word();
+    let bra = ket ^ op.x[TERMS / 2];
+    let state = |word: u64| {
+        let mut out = StateList::new(Qubits::from_count(op.n));
+        out.push_u64it([word].into_iter());
+        out
+    };
+    let (bras, kets) = (state(bra), state(ket));
+    let rust = || {
+        mat_elem_cmpnts_from_presorted(
+            black_box(&terms),
+            black_box(&blocks),
+            &black_box(&bras).get_elem_ref(0),
+            &black_box(&kets).get_elem_ref(0),
+        )
+    };
+    let bits = |re: f64, im: f64| format!("{:x} {:x}", re.to_bits(), im.to_bits());
+    let (code, re, im) = ours::mat_elem(&op, bra, ket);
+    assert_eq!(code, 0);
+    let sum = rust();
+    agree(name, bits(re, im), bits(sum.re, sum.im));
+    let (calls, rust_calls) = (5, 5 * TERMS / block);
+    line(
+        name,
+        &format!("{} terms, {block} in the block", terms.len()),
+        Side(calls, || time(|| (0..calls).for_each(|_| assert_eq!(ours::mat_elem(black_box(&op), bra, ket).0, 0)))),
+        Side(rust_calls, || time(|| (0..rust_calls).for_each(|_| _ = black_box(rust())))),
+    );
+}

@@ -1,0 +1,184 @@
+//! The functions that the crate `speed` exports. A slice is passed as a pointer and a length; the number that comes
+//! back is 0 for done, else the refusal's.
+
+use crate::rows::{Operator, Set};
+
+extern "C" {
+    fn speed_compatibility_matrix(
+        n: usize,
+        x: *const u64,
+        x_len: usize,
+        z: *const u64,
+        z_len: usize,
+        phases: *const u8,
+        phases_len: usize,
+        out: *mut u64,
+        out_len: usize,
+    ) -> u8;
+
+    fn speed_cmpnts_mul_pairwise(
+        n: usize,
+        lx: *const u64,
+        lx_len: usize,
+        lz: *const u64,
+        lz_len: usize,
+        lp: *const u8,
+        lp_len: usize,
+        rx: *const u64,
+        rx_len: usize,
+        rz: *const u64,
+        rz_len: usize,
+        rp: *const u8,
+        rp_len: usize,
+        ox: *mut u64,
+        ox_len: usize,
+        oz: *mut u64,
+        oz_len: usize,
+        op: *mut u8,
+        op_len: usize,
+    ) -> u8;
+
+    fn speed_imul(
+        n: usize,
+        x: *mut u64,
+        x_len: usize,
+        z: *mut u64,
+        z_len: usize,
+        phases: *mut u8,
+        phases_len: usize,
+        a: usize,
+        b: usize,
+    ) -> u8;
+
+    fn speed_canonicalize_all(
+        n: usize,
+        x: *mut u64,
+        x_len: usize,
+        z: *mut u64,
+        z_len: usize,
+        phases: *mut u8,
+        phases_len: usize,
+        log: *mut u16,
+        log_len: usize,
+        entries: *mut usize,
+        t: *mut usize,
+    ) -> u8;
+
+    fn speed_mat_elem_cmpnts_from_presorted(
+        n: usize,
+        x: *const u64,
+        x_len: usize,
+        z: *const u64,
+        z_len: usize,
+        re: *const f64,
+        re_len: usize,
+        im: *const f64,
+        im_len: usize,
+        bra: u64,
+        ket: u64,
+        real: *mut f64,
+        imag: *mut f64,
+    ) -> u8;
+}
+
+pub fn compatibility_matrix(set: &Set, out: &mut [u64]) -> u8 {
+    unsafe {
+        speed_compatibility_matrix(
+            set.n,
+            set.x.as_ptr(),
+            set.x.len(),
+            set.z.as_ptr(),
+            set.z.len(),
+            set.phases.as_ptr(),
+            set.phases.len(),
+            out.as_mut_ptr(),
+            out.len(),
+        )
+    }
+}
+
+pub fn cmpnts_mul_pairwise(left: &Set, right: &Set, out: &mut Set) -> u8 {
+    unsafe {
+        speed_cmpnts_mul_pairwise(
+            left.n,
+            left.x.as_ptr(),
+            left.x.len(),
+            left.z.as_ptr(),
+            left.z.len(),
+            left.phases.as_ptr(),
+            left.phases.len(),
+            right.x.as_ptr(),
+            right.x.len(),
+            right.z.as_ptr(),
+            right.z.len(),
+            right.phases.as_ptr(),
+            right.phases.len(),
+            out.x.as_mut_ptr(),
+            out.x.len(),
+            out.z.as_mut_ptr(),
+            out.z.len(),
+            out.phases.as_mut_ptr(),
+            out.phases.len(),
+        )
+    }
+}
+
+pub fn imul(set: &mut Set, a: usize, b: usize) -> u8 {
+    unsafe {
+        speed_imul(
+            set.n,
+            set.x.as_mut_ptr(),
+            set.x.len(),
+            set.z.as_mut_ptr(),
+            set.z.len(),
+            set.phases.as_mut_ptr(),
+            set.phases.len(),
+            a,
+            b,
+        )
+    }
+}
+
+/// The number, the entries and the pivots.
+pub fn canonicalize_all(set: &mut Set, log: &mut [u16]) -> (u8, usize, usize) {
+    let (mut entries, mut t) = (0, 0);
+    let code = unsafe {
+        speed_canonicalize_all(
+            set.n,
+            set.x.as_mut_ptr(),
+            set.x.len(),
+            set.z.as_mut_ptr(),
+            set.z.len(),
+            set.phases.as_mut_ptr(),
+            set.phases.len(),
+            log.as_mut_ptr(),
+            log.len(),
+            &mut entries,
+            &mut t,
+        )
+    };
+    (code, entries, t)
+}
+
+/// The number, and the real and imaginary part of the sum.
+pub fn mat_elem(op: &Operator, bra: u64, ket: u64) -> (u8, f64, f64) {
+    let (mut re, mut im) = (0.0, 0.0);
+    let code = unsafe {
+        speed_mat_elem_cmpnts_from_presorted(
+            op.n,
+            op.x.as_ptr(),
+            op.x.len(),
+            op.z.as_ptr(),
+            op.z.len(),
+            op.re.as_ptr(),
+            op.re.len(),
+            op.im.as_ptr(),
+            op.im.len(),
+            bra,
+            ket,
+            &mut re,
+            &mut im,
+        )
+    };
+    (code, re, im)
+}

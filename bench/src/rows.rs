@@ -1,0 +1,69 @@
+//! The inputs: random rows and terms, and the same in the Rust's containers.
+
+use std::collections::HashMap;
+
+use num_complex::Complex64;
+use oracle::container::coeffs::complex_sign::{ComplexSign, ComplexSignVec};
+use oracle::container::coeffs::traits::NumReprVec;
+use oracle::qubit::pauli::cmpnt_major::terms::Terms;
+
+use crate::fields::rows;
+use crate::random::Random;
+
+/// A row set as it lies in memory.
+#[derive(Clone)]
+pub struct Set {
+    pub n: usize,
+    pub x: Vec<u64>,
+    pub z: Vec<u64>,
+    pub phases: Vec<u8>,
+}
+
+impl Set {
+    /// m random rows of n qubits, n a multiple of 64.
+    pub fn random(random: &mut Random, n: usize, m: usize) -> Self {
+        assert_eq!(n % 64, 0);
+        let mut words = || (0..m * n / 64).map(|_| random.word()).collect::<Vec<_>>();
+        let (x, z) = (words(), words());
+        let phases = (0..m).map(|_| random.below(4) as u8).collect();
+        Self { n, x, z, phases }
+    }
+
+    /// The same rows for the Rust.
+    pub fn terms(&self) -> Terms<ComplexSign> {
+        let mut phases = ComplexSignVec::default();
+        self.phases.iter().for_each(|p| phases.push(ComplexSign(*p)));
+        Terms::from((rows(self.n, self.phases.len(), &self.x, &self.z), phases))
+    }
+}
+
+/// Terms of one word each, X never falling.
+pub struct Operator {
+    pub n: usize,
+    pub x: Vec<u64>,
+    pub z: Vec<u64>,
+    pub re: Vec<f64>,
+    pub im: Vec<f64>,
+}
+
+impl Operator {
+    /// Random terms of 64 qubits, in blocks of `block` terms with the same X.
+    pub fn random(random: &mut Random, terms: usize, block: usize) -> Self {
+        let mut x = (0..terms / block).flat_map(|_| vec![random.word(); block]).collect::<Vec<_>>();
+        x.sort_unstable();
+        let z = (0..terms).map(|_| random.word()).collect();
+        let mut parts = || (0..terms).map(|_| random.word() as i64 as f64).collect::<Vec<_>>();
+        let (re, im) = (parts(), parts());
+        Self { n: 64, x, z, re, im }
+    }
+
+    /// The same terms for the Rust, with the map of block starts that it takes.
+    pub fn terms(&self) -> (Terms<Complex64>, HashMap<u64, usize>) {
+        let coeffs = self.re.iter().zip(&self.im).map(|(re, im)| Complex64::new(*re, *im)).collect();
+        let mut blocks = HashMap::new();
+        self.x.iter().enumerate().for_each(|(i, word)| {
+            blocks.entry(*word).or_insert(i);
+        });
+        (Terms::from((rows(self.n, self.x.len(), &self.x, &self.z), coeffs)), blocks)
+    }
+}

@@ -1,0 +1,95 @@
+use mathlib.Core.Path.{_≡_, refl, sym, _∙_}
+use Prim.Native.Nat.{_-_, _/_, _≤_}
+use native.Mathlib.Omega.{arith}
+use borrow.Author.Tests.{not-true, not-false}
+use borrow.Author.Needs.{needs}
+use lib.ListN.{length, drop}
+use Rattle.reduction.specs.Log.{pairs}
+use Rattle.replay.specs.Steps.{goodBy, firstBadBy}
+use Rattle.replay.proofs.Log.{bad-here, bad-next, bad-end}
+use Rattle.replay.proofs.entries.first_bad_by.Statement.{statement}
+use Rattle.replay.proofs.entries.first_bad_by.Tie as tie
+
+abbrev Inv-loop : tie.InvT-loop
+Inv-loop marks log i₀ i = (i ≤ length log / 2) × (firstBadBy (goodBy marks) i (drop i (pairs log)) ≡ firstBadBy (goodBy marks) 0 (pairs log))
+
+abbrev μ-loop : tie.MeasureT-loop
+μ-loop marks log i₀ i = length log / 2 - i
+
+loop-holds : tie.Need-loop-holds Inv-loop μ-loop
+loop-holds c = (omega arith, refl)
+
+add-loop : tie.Need-add-loop Inv-loop μ-loop
+add-loop c = search needs
+
+add-loop-2 : tie.Need-add-loop-2 Inv-loop μ-loop
+add-loop-2 c = search needs
+
+add-j : tie.Need-add-j Inv-loop μ-loop
+add-j c = search needs
+
+mul-good-entry : tie.Need-mul-good-entry Inv-loop μ-loop
+mul-good-entry c = search needs
+
+shared-slice-read-good-entry : tie.Need-shared-slice-read-good-entry Inv-loop μ-loop
+shared-slice-read-good-entry c = search needs
+
+add-good-entry : tie.Need-add-good-entry Inv-loop μ-loop
+add-good-entry c = search needs
+
+mul-good-entry-2 : tie.Need-mul-good-entry-2 Inv-loop μ-loop
+mul-good-entry-2 c = search needs
+
+shared-slice-read-good-entry-2 : tie.Need-shared-slice-read-good-entry-2 Inv-loop μ-loop
+shared-slice-read-good-entry-2 c = search needs
+
+good-entry-requires : tie.Need-good-entry-requires Inv-loop μ-loop
+good-entry-requires c κs = tt
+
+returns : tie.Need-returns Inv-loop μ-loop
+returns c =
+    let a = c .before .before .before .before .before .before .before .before .args in
+    let l = c .before .before .before .before .before .loop in
+    let g = c .before .good-entry in
+    bad-here (goodBy (a .marks .now)) (a .log .now) (l .i) (omega arith) (sym (not-true (g .result) (c .if1 .taken)) ∙ g .ensures) ∙ l .inv .1
+
+add-i : tie.Need-add-i Inv-loop μ-loop
+add-i c = search needs
+
+loop-less : tie.Need-loop-less Inv-loop μ-loop
+loop-less c = search needs
+
+loop-again : tie.Need-loop-again Inv-loop μ-loop
+loop-again c =
+    let a = c .before .before .before .before .before .before .before .before .args in
+    let l = c .before .before .before .before .before .loop in
+    let g = c .before .good-entry in
+    (omega arith, bad-next (goodBy (a .marks .now)) (a .log .now) (l .i) (omega arith) (sym (not-false (g .result) (c .if1 .left)) ∙ g .ensures) ∙ l .inv .1)
+
+returns-2 : tie.Need-returns-2 Inv-loop μ-loop
+returns-2 c =
+    let a = c .before .before .before .before .args in
+    let l = c .before .loop in
+    bad-end (goodBy (a .marks .now)) (a .log .now) (l .i) (omega arith) ∙ l .inv .1
+
+pub first-bad-by-spec : {M : Type 1} → statement M
+first-bad-by-spec =
+    tie.close
+    (tie.spec
+    Inv-loop
+    μ-loop
+    loop-holds
+    add-loop
+    add-loop-2
+    add-j
+    mul-good-entry
+    shared-slice-read-good-entry
+    add-good-entry
+    mul-good-entry-2
+    shared-slice-read-good-entry-2
+    good-entry-requires
+    returns
+    add-i
+    loop-less
+    loop-again
+    returns-2)

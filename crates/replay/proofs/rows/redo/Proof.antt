@@ -1,0 +1,104 @@
+use mathlib.Core.Path.{_≡_, refl, ap, _∙_}
+use Prim.Native.Nat.{_+_, _-_, _≤_}
+use native.Mathlib.Omega.{arith}
+use borrow.Author.Needs.{needs}
+use lib.ListN.{length, take}
+use Rattle.encoding.specs.Set.{mem}
+use Rattle.reduction.specs.Log.{pairs}
+use Rattle.replay.specs.Steps.{redone}
+use Rattle.replay.proofs.Log.{redo-more}
+use Rattle.replay.proofs.rows.redo.Statement.{statement}
+use Rattle.replay.proofs.rows.redo.Tie as tie
+
+abbrev Inv-loop : tie.InvT-loop
+Inv-loop n x₀ z₀ phases₀ log k i₀ x z phases i =
+    (i ≤ k) × ((length x ≡ length x₀) × (length z ≡ length z₀) × (length phases ≡ length phases₀)) × (mem x z phases ≡ redone n (take i (pairs log)) (mem x₀ z₀ phases₀))
+
+abbrev μ-loop : tie.MeasureT-loop
+μ-loop n x₀ z₀ phases₀ log k i₀ x z phases i = k - i
+
+loop-holds : tie.Need-loop-holds Inv-loop μ-loop
+unfolding redone
+loop-holds c = (omega arith, (refl, refl, refl), refl)
+
+add-j : tie.Need-add-j Inv-loop μ-loop
+add-j c = search needs
+
+mul-t12 : tie.Need-mul-t12 Inv-loop μ-loop
+mul-t12 c = search needs
+
+shared-slice-read-t14 : tie.Need-shared-slice-read-t14 Inv-loop μ-loop
+shared-slice-read-t14 c = search needs
+
+cast-t15 : tie.Need-cast-t15 Inv-loop μ-loop
+cast-t15 c = omega (arith, c .shared-slice-known2 .given (c .before .before .loop .i + c .before .before .loop .i))
+
+add-t12 : tie.Need-add-t12 Inv-loop μ-loop
+add-t12 c = search needs
+
+mul-t15 : tie.Need-mul-t15 Inv-loop μ-loop
+mul-t15 c = search needs
+
+shared-slice-read-t14-2 : tie.Need-shared-slice-read-t14-2 Inv-loop μ-loop
+shared-slice-read-t14-2 c = search needs
+
+cast-t17 : tie.Need-cast-t17 Inv-loop μ-loop
+cast-t17 c = omega (arith, c .shared-slice-known3 .given (c .before .before .before .loop .i + c .before .before .before .loop .i + 1))
+
+imul-unchecked-requires : tie.Need-imul-unchecked-requires Inv-loop μ-loop
+imul-unchecked-requires c κs = tt
+
+add-i : tie.Need-add-i Inv-loop μ-loop
+add-i c = search needs
+
+loop-less : tie.Need-loop-less Inv-loop μ-loop
+loop-less c = search needs
+
+loop-again : tie.Need-loop-again Inv-loop μ-loop
+loop-again c =
+    let s = c .before .before .before .before .before .before .before .before .before .before .before .before .before .before .before .before .before .before in
+    let a = s .args in
+    let l = c .before .before .before .before .before .before .before .before .before .before .before .before .before .loop in
+    let d = c .before .before .before .before .before .before .imul-unchecked in
+    let k = d .kept in
+    let M₀ = mem (a .x .now) (a .z .now) (a .phases .now) in
+    (omega arith, (k .1 .0 ∙ l .inv .1 .0, k .1 .1 .0 ∙ l .inv .1 .1, k .1 .1 .1 .0 ∙ l .inv .1 .2), redo-more (a .n) (a .log .now) (l .i) M₀ (omega (arith, s .pre)) (l .inv .2) (d .ensures))
+
+same-length : tie.Need-same-length Inv-loop μ-loop
+same-length c = c .before .loop .inv .1 .0
+
+same-length-2 : tie.Need-same-length-2 Inv-loop μ-loop
+same-length-2 c = c .before .loop .inv .1 .1
+
+same-length-3 : tie.Need-same-length-3 Inv-loop μ-loop
+same-length-3 c = c .before .loop .inv .1 .2
+
+returns : tie.Need-returns Inv-loop μ-loop
+returns c =
+    let a = c .before .before .before .before .before .before .args in
+    let l = c .before .loop in
+    l .inv .2 ∙ ap (λ j. redone (a .n) (take j (pairs (a .log .now))) (mem (a .x .now) (a .z .now) (a .phases .now))) (let e : l .i ≡ a .k = omega arith in e)
+
+pub redo-spec : {M : Type 1} → statement M
+redo-spec =
+    tie.close
+    (tie.spec
+    Inv-loop
+    μ-loop
+    loop-holds
+    add-j
+    mul-t12
+    shared-slice-read-t14
+    cast-t15
+    add-t12
+    mul-t15
+    shared-slice-read-t14-2
+    cast-t17
+    imul-unchecked-requires
+    add-i
+    loop-less
+    loop-again
+    same-length
+    same-length-2
+    same-length-3
+    returns)

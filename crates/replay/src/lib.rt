@@ -1,0 +1,148 @@
+// The replay checker: it tells anyone whether a claimed result of a reduction is right, from the log that someone made.
+ghost use mathlib.Core.Path.{_≡_};
+ghost use mathlib.Core.List.{[]};
+ghost use lib.ListN.{length};
+ghost use Rattle.encoding.specs.Set.{mem};
+ghost use Rattle.encoding.specs.Refusals.{fault, joined};
+ghost use Rattle.terms.specs.Refused.{reduceTests};
+ghost use Rattle.replay.specs.Check.{task, claim, countTests, logTests, claimTests, TaskPassed, ClaimPassed, Passed, given, verdictOn, Checked};
+ghost use Rattle.replay.specs.Steps.{Judged};
+use encoding::pick;
+use encoding::set_fault;
+use encoding::smaller;
+use terms::lists::lists_fault;
+
+mod entries;
+mod form;
+mod rows;
+
+// What the checker says of a claim.
+pub enum Verdict {
+    // The first bad entry of the log, counted in pairs from 0.
+    BadEntry(usize),
+    // The first row in which the replay and the claim differ.
+    Differs(usize),
+    NotReduced,
+    Yes,
+    Refused(u8),
+}
+
+// The first number of the table that fits what was to be reduced, or 0.
+fn task_fault(
+    n: usize,
+    x: &[u64],
+    z: &[u64],
+    phases: &[u8],
+    order: &[u16],
+    listed: &[u16],
+    extra: &[u16],
+) -> u8
+    ensures { λ r. ⌜ r ≡ fault (reduceTests n (mem (now (x .entry)) (now (z .entry)) (now (phases .entry))) (now (order .entry)) (now (listed .entry)) (now (extra .entry))) ⌝ }
+    ensures passed { λ r. ⌜ (r ≡ 0 → TaskPassed (task n (mem (now (x .entry)) (now (z .entry)) (now (phases .entry))) (now (order .entry)) (now (listed .entry)) (now (extra .entry)))) ⌝ }
+{
+    let a = set_fault(n, x, z, phases);
+    let b = lists_fault(n, phases.len(), order, listed, extra);
+    smaller(a, b)
+}
+
+// 3 for sets of different m, 9 for a log of odd length, or 0.
+fn fit_fault(m: usize, k: usize, units: usize) -> u8
+    ensures { λ r. ⌜ r ≡ fault (joined (countTests m k) (logTests units)) ⌝ }
+{
+    let a = k != m;
+    let b = units % 2 == 1;
+    pick(a, 3, pick(b, 9, 0))
+}
+
+// The first number of the table that fits what is claimed of m rows of n qubits, or 0.
+fn claim_fault(n: usize, m: usize, log: &[u16], cx: &[u64], cz: &[u64], cphases: &[u8]) -> u8
+    ensures { λ r. ⌜ r ≡ fault (claimTests n m (claim (now (log .entry)) (mem (now (cx .entry)) (now (cz .entry)) (now (cphases .entry))))) ⌝ }
+    ensures passed { λ r. ⌜ (r ≡ 0 → ClaimPassed n m (mem (now (cx .entry)) (now (cz .entry)) (now (cphases .entry)))) ⌝ }
+{
+    let a = set_fault(n, cx, cz, cphases);
+    let b = fit_fault(m, cphases.len(), log.len());
+    smaller(a, b)
+}
+
+// The verdict on rows that were replayed: the first that differs from what is claimed, else whether they are in reduced form.
+fn compare(
+    n: usize,
+    x: &[u64],
+    z: &[u64],
+    phases: &[u8],
+    order: &[u16],
+    listed: &[u16],
+    extra: &[u16],
+    cx: &[u64],
+    cz: &[u64],
+    cphases: &[u8],
+) -> Verdict
+    requires { ⌜ Passed (task n (mem (now x) (now z) (now phases)) (now order) (now listed) (now extra))
+        (mem (now cx) (now cz) (now cphases)) ⌝ }
+    ensures { λ r. ⌜ r ≡ given (verdictOn (task n (mem (now (x .entry)) (now (z .entry)) (now (phases .entry))) (now (order .entry)) (now (listed .entry)) (now (extra .entry)))
+        (claim [] (mem (now (cx .entry)) (now (cz .entry)) (now (cphases .entry))))) ⌝ }
+{
+    let d = rows::first_diff(n, x, z, phases, cx, cz, cphases);
+    if d < phases.len() {
+        return Verdict::Differs(d);
+    }
+    if form::is_reduced(n, x, z, order, listed, extra) {
+        return Verdict::Yes;
+    }
+    Verdict::NotReduced
+}
+
+// The verdict on a claim that nothing refuses: all entries are tested, then all are replayed, then the rows are compared.
+fn judge(
+    n: usize,
+    x: &mut [u64],
+    z: &mut [u64],
+    phases: &mut [u8],
+    order: &[u16],
+    listed: &[u16],
+    extra: &[u16],
+    log: &[u16],
+    cx: &[u64],
+    cz: &[u64],
+    cphases: &[u8],
+) -> Verdict
+    requires { ⌜ Passed (task n (mem (now x) (now z) (now phases)) (now order) (now listed) (now extra))
+        (mem (now cx) (now cz) (now cphases)) ⌝ }
+    ensures { λ r. ⌜ Judged (task n (mem (now (x .entry)) (now (z .entry)) (now (phases .entry))) (now (order .entry)) (now (listed .entry)) (now (extra .entry)))
+        (claim (now (log .entry)) (mem (now (cx .entry)) (now (cz .entry)) (now (cphases .entry)))) r (mem (now (x .exit)) (now (z .exit)) (now (phases .exit))) ⌝ }
+{
+    let h = log.len() / 2;
+    let b = entries::first_bad(log, listed, extra);
+    let k = entries::to_replay(b, h);
+    rows::redo(n, x, z, phases, log, k);
+    if b < h {
+        return Verdict::BadEntry(b);
+    }
+    compare(n, x, z, phases, order, listed, extra, cx, cz, cphases)
+}
+
+// The replay checker. x, z and phases come in as the starting rows and end as the replayed ones; at a refusal or a bad entry they are unchanged.
+pub fn check(
+    n: usize,
+    x: &mut [u64],
+    z: &mut [u64],
+    phases: &mut [u8],
+    order: &[u16],
+    listed: &[u16],
+    extra: &[u16],
+    log: &[u16],
+    cx: &[u64],
+    cz: &[u64],
+    cphases: &[u8],
+) -> Verdict
+    ensures { λ r. ⌜ Checked (task n (mem (now (x .entry)) (now (z .entry)) (now (phases .entry))) (now (order .entry)) (now (listed .entry)) (now (extra .entry)))
+        (claim (now (log .entry)) (mem (now (cx .entry)) (now (cz .entry)) (now (cphases .entry)))) r (mem (now (x .exit)) (now (z .exit)) (now (phases .exit))) ⌝ }
+{
+    let a = task_fault(n, x, z, phases, order, listed, extra);
+    let b = claim_fault(n, phases.len(), log, cx, cz, cphases);
+    let f = smaller(a, b);
+    if f != 0 {
+        return Verdict::Refused(f);
+    }
+    judge(n, x, z, phases, order, listed, extra, log, cx, cz, cphases)
+}

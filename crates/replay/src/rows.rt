@@ -1,0 +1,100 @@
+// The working rows: the replay of a log, and the first row that differs from what is claimed.
+ghost use mathlib.Core.Path.{_≡_};
+ghost use mathlib.Core.Bool.{true, false};
+ghost use Prim.Native.Nat.{_+_, _*_, _/_, _≤_, _<_};
+ghost use lib.ListN.{length, take};
+ghost use Rattle.encoding.specs.Limits.{wordsOf};
+ghost use Rattle.pauli.specs.Row.{sameRow};
+ghost use Rattle.encoding.specs.Set.{row, mem, rowsOf, Valid};
+ghost use Rattle.reduction.specs.Log.{pairs};
+ghost use Rattle.reduction.specs.Checker.{firstDiff};
+ghost use Rattle.replay.specs.Steps.{redone, placeOf};
+use pauli::RowNumber;
+use terms::rows::imul_unchecked;
+
+// The first k entries are done to the rows, one after another.
+pub(crate) fn redo(n: usize, x: &mut [u64], z: &mut [u64], phases: &mut [u8], log: &[u16], k: usize)
+    requires { ⌜ k ≤ length (now log) / 2 ⌝ }
+    ensures { λ _. ⌜ mem (now (x .exit)) (now (z .exit)) (now (phases .exit))
+        ≡ redone n (take k (pairs (now (log .entry)))) (mem (now (x .entry)) (now (z .entry)) (now (phases .entry))) ⌝ }
+{
+    let mut i = 0;
+    while i < k {
+        let j = i + i;
+        let a = RowNumber(log[j] as usize);
+        let b = RowNumber(log[j + 1] as usize);
+        imul_unchecked(n, x, z, phases, a, b);
+        i += 1;
+    }
+}
+
+// Whether rows k of two sets have the same words.
+fn same_words(w: usize, x: &[u64], y: &[u64], k: usize) -> bool
+    requires { ⌜ (k * w + w ≤ length (now x)) × (length (now y) ≡ length (now x)) ⌝ }
+    ensures yes { λ r. ⌜ (r ≡ true → row w k (now (x .entry)) ≡ row w k (now (y .entry))) ⌝ }
+    ensures no { λ r. ⌜ (r ≡ false → row w k (now (x .entry)) ≡ row w k (now (y .entry)) → ⊥) ⌝ }
+{
+    let s = k * w;
+    let mut i = 0;
+    while i < w {
+        let j = s + i;
+        if x[j] != y[j] {
+            return false;
+        }
+        i += 1;
+    }
+    true
+}
+
+// Whether rows k of two sets are the same, in bits and phase.
+fn same_row(
+    n: usize,
+    x: &[u64],
+    z: &[u64],
+    phases: &[u8],
+    cx: &[u64],
+    cz: &[u64],
+    cphases: &[u8],
+    k: usize,
+) -> bool
+    requires { ⌜ Valid n (wordsOf n) (mem (now x) (now z) (now phases)) ⌝ }
+    requires { ⌜ Valid n (wordsOf n) (mem (now cx) (now cz) (now cphases)) ⌝ }
+    requires { ⌜ (length (now phases) ≡ length (now cphases)) × (k < length (now phases)) ⌝ }
+    ensures { λ r. ⌜ r ≡ sameRow n (rowsOf n (mem (now (x .entry)) (now (z .entry)) (now (phases .entry))) k)
+        (rowsOf n (mem (now (cx .entry)) (now (cz .entry)) (now (cphases .entry))) k) ⌝ }
+{
+    let w = encoding::words(n);
+    if !same_words(w, x, cx, k) {
+        return false;
+    }
+    if !same_words(w, z, cz, k) {
+        return false;
+    }
+    phases[k] == cphases[k]
+}
+
+// The first row that differs; the number of rows if there is none.
+pub(crate) fn first_diff(
+    n: usize,
+    x: &[u64],
+    z: &[u64],
+    phases: &[u8],
+    cx: &[u64],
+    cz: &[u64],
+    cphases: &[u8],
+) -> usize
+    requires { ⌜ Valid n (wordsOf n) (mem (now x) (now z) (now phases)) ⌝ }
+    requires { ⌜ Valid n (wordsOf n) (mem (now cx) (now cz) (now cphases)) ⌝ }
+    requires { ⌜ length (now phases) ≡ length (now cphases) ⌝ }
+    ensures { λ r. ⌜ placeOf (length (now (phases .entry))) r ≡ firstDiff (sameRow n)
+        (rowsOf n (mem (now (x .entry)) (now (z .entry)) (now (phases .entry)))) (rowsOf n (mem (now (cx .entry)) (now (cz .entry)) (now (cphases .entry)))) 0 (length (now (phases .entry))) ⌝ }
+{
+    let mut i = 0;
+    while i < phases.len() {
+        if !same_row(n, x, z, phases, cx, cz, cphases, i) {
+            return i;
+        }
+        i += 1;
+    }
+    i
+}

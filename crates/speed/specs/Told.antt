@@ -1,0 +1,73 @@
+-- The calls of document 01 that are measured, for callers from C and Rust: what such a caller sees of an answer. A slice comes as a pointer and a length;
+-- the number returned is 0 for done, else the number of "Refusal numbers"; a value comes through a reference. Assumes nothing.
+use mathlib.Core.Path.{_≡_}
+use Prim.Native.Nat.{ℕ}
+use lib.Ieee.{Float}
+use Rattle.encoding.specs.declared.Answer.{Answer}
+use Rattle.encoding.specs.declared.Answer.the-variants as answer
+use Rattle.terms.specs.declared.Canonicalized.{Canonicalized}
+use Rattle.terms.specs.declared.Canonicalized.the-variants as reduced
+use Rattle.mat_elem_float.specs.declared.Element.{Element}
+use Rattle.mat_elem_float.specs.declared.Element.the-variants as element
+
+-- what the call's own contract says, of the answer that the caller sees
+pub record Told {A : Type 0} (Call Seen : A → Type 0) : Type 0 where
+  pub given : A
+  pub call : Call given
+  pub seen : Seen given
+
+-- ---- calls that are done or refused
+
+abbrev pub numberOf : Answer → ℕ
+numberOf answer.Done = 0
+numberOf (answer.Refused k) = k
+
+abbrev pub Number : ℕ → Answer → Type 0
+Number r a = r ≡ numberOf a
+
+-- ---- a reduction: the entry count and t, the capacity (refusal 8) in the place of the count; what is not given stays as it was
+
+abbrev pub reducedNumber : Canonicalized → ℕ
+reducedNumber (reduced.Done e t) = 0
+reducedNumber (reduced.Full k) = 8
+reducedNumber (reduced.Refused k) = k
+
+abbrev pub entriesOr : ℕ → Canonicalized → ℕ
+entriesOr old (reduced.Done e t) = e
+entriesOr old (reduced.Full k) = k
+entriesOr old (reduced.Refused k) = old
+
+abbrev pub pivotsOr : ℕ → Canonicalized → ℕ
+pivotsOr old (reduced.Done e t) = t
+pivotsOr old (reduced.Full k) = old
+pivotsOr old (reduced.Refused k) = old
+
+pub record Counted (entries t entries′ t′ r : ℕ) (a : Canonicalized) : Type 0 where
+  pub number : r ≡ reducedNumber a
+  pub count : entries′ ≡ entriesOr entries a
+  pub pivots : t′ ≡ pivotsOr t a
+
+-- ---- a matrix element: the two parts of the sum, or 255 for no block; without a sum the parts stay as they were
+
+abbrev pub noBlock : ℕ
+noBlock = 255
+
+abbrev pub elementNumber : Element → ℕ
+elementNumber (element.Sum re im) = 0
+elementNumber element.NoBlock = noBlock
+elementNumber (element.Refused k) = k
+
+abbrev pub realOr : Float → Element → Float
+realOr old (element.Sum re im) = re
+realOr old element.NoBlock = old
+realOr old (element.Refused k) = old
+
+abbrev pub imagOr : Float → Element → Float
+imagOr old (element.Sum re im) = im
+imagOr old element.NoBlock = old
+imagOr old (element.Refused k) = old
+
+pub record Parted (re im re′ im′ : Float) (r : ℕ) (a : Element) : Type 0 where
+  pub number : r ≡ elementNumber a
+  pub real : re′ ≡ realOr re a
+  pub imag : im′ ≡ imagOr im a

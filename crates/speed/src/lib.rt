@@ -1,0 +1,159 @@
+// The calls that are measured, exported under names that begin with the crate's: thin, each under the contract of the call itself.
+ghost use mathlib.Core.Path.{_≡_};
+ghost use Rattle.encoding.specs.Set.{mem};
+ghost use Rattle.cmpnt_list.specs.Calls.{CompatibilityMatrix, MulPairwise};
+ghost use Rattle.terms.specs.Calls.{Multiplies, ReducesAll};
+ghost use Rattle.mat_elem_float.specs.Product.{MatElem};
+ghost use Rattle.speed.specs.Told.{Told, Number, numberOf, Counted, reducedNumber, entriesOr, pivotsOr, Parted, elementNumber, realOr, imagOr};
+use encoding::Answer;
+use mat_elem_float::Element;
+use pauli::RowNumber;
+use terms::Canonicalized;
+
+// What stands for no block beside the refusal numbers.
+pub const NO_BLOCK: u8 = 255;
+
+// 0 for done, else the refusal's number.
+fn number(a: Answer) -> u8
+    ensures { λ r. ⌜ r ≡ numberOf a ⌝ }
+{
+    match a {
+        Answer::Done => 0,
+        Answer::Refused(k) => k,
+    }
+}
+
+#[no_mangle]
+pub extern "C" fn speed_compatibility_matrix(
+    n: usize,
+    x: &[u64],
+    z: &[u64],
+    phases: &[u8],
+    out: &mut [u64],
+) -> u8
+    ensures { λ r. ⌜ Told (CompatibilityMatrix n (mem (now (x .entry)) (now (z .entry)) (now (phases .entry))) (now (out .entry)) (now (out .exit))) (Number r) ⌝ }
+{
+    number(cmpnt_list::compatibility_matrix(n, x, z, phases, out))
+}
+
+#[no_mangle]
+pub extern "C" fn speed_cmpnts_mul_pairwise(
+    n: usize,
+    lx: &[u64],
+    lz: &[u64],
+    lp: &[u8],
+    rx: &[u64],
+    rz: &[u64],
+    rp: &[u8],
+    ox: &mut [u64],
+    oz: &mut [u64],
+    op: &mut [u8],
+) -> u8
+    ensures { λ r. ⌜ Told (MulPairwise n (mem (now (lx .entry)) (now (lz .entry)) (now (lp .entry))) (mem (now (rx .entry)) (now (rz .entry)) (now (rp .entry))) (mem (now (ox .entry)) (now (oz .entry)) (now (op .entry))) (mem (now (ox .exit)) (now (oz .exit)) (now (op .exit)))) (Number r) ⌝ }
+{
+    number(cmpnt_list::cmpnts_mul_pairwise(n, lx, lz, lp, rx, rz, rp, ox, oz, op))
+}
+
+#[no_mangle]
+pub extern "C" fn speed_imul(
+    n: usize,
+    x: &mut [u64],
+    z: &mut [u64],
+    phases: &mut [u8],
+    a: usize,
+    b: usize,
+) -> u8
+    ensures { λ r. ⌜ Told (Multiplies n a b (mem (now (x .entry)) (now (z .entry)) (now (phases .entry))) (mem (now (x .exit)) (now (z .exit)) (now (phases .exit)))) (Number r) ⌝ }
+{
+    number(terms::imul(n, x, z, phases, RowNumber(a), RowNumber(b)))
+}
+
+struct Counts {
+    number: u8,
+    entries: usize,
+    t: usize,
+}
+
+// What is seen of a reduction's answer, with the numbers that stay where it gives none.
+fn counted(a: Canonicalized, entries: usize, t: usize) -> Counts
+    ensures { λ r. ⌜ (r .number ≡ reducedNumber a) × (r .entries ≡ entriesOr entries a) × (r .t ≡ pivotsOr t a) ⌝ }
+{
+    match a {
+        Canonicalized::Done { entries, t } => Counts {
+            number: 0,
+            entries,
+            t,
+        },
+        Canonicalized::Full(capacity) => Counts {
+            number: 8,
+            entries: capacity,
+            t,
+        },
+        Canonicalized::Refused(k) => Counts {
+            number: k,
+            entries,
+            t,
+        },
+    }
+}
+
+#[no_mangle]
+pub extern "C" fn speed_canonicalize_all(
+    n: usize,
+    x: &mut [u64],
+    z: &mut [u64],
+    phases: &mut [u8],
+    log: &mut [u16],
+    entries: &mut usize,
+    t: &mut usize,
+) -> u8
+    ensures { λ r. ⌜ Told (ReducesAll n (mem (now (x .entry)) (now (z .entry)) (now (phases .entry))) (now (log .entry)) (mem (now (x .exit)) (now (z .exit)) (now (phases .exit))) (now (log .exit))) (Counted (now (entries .entry)) (now (t .entry)) (now (entries .exit)) (now (t .exit)) r) ⌝ }
+{
+    let a = terms::canonicalize_all(n, x, z, phases, log);
+    let c = counted(a, *entries, *t);
+    *entries = c.entries;
+    *t = c.t;
+    c.number
+}
+
+struct Parts {
+    number: u8,
+    re: f64,
+    im: f64,
+}
+
+// What is seen of a matrix element, with the parts that stay where there is no sum.
+fn parted(a: Element, re: f64, im: f64) -> Parts
+    ensures { λ r. ⌜ (r .number ≡ elementNumber a) × (r .re ≡ realOr re a) × (r .im ≡ imagOr im a) ⌝ }
+{
+    match a {
+        Element::Sum(re, im) => Parts { number: 0, re, im },
+        Element::NoBlock => Parts {
+            number: NO_BLOCK,
+            re,
+            im,
+        },
+        Element::Refused(k) => Parts { number: k, re, im },
+    }
+}
+
+#[no_mangle]
+pub extern "C" fn speed_mat_elem_cmpnts_from_presorted(
+    n: usize,
+    x: &[u64],
+    z: &[u64],
+    re: &[f64],
+    im: &[f64],
+    bra: u64,
+    ket: u64,
+    real: &mut f64,
+    imag: &mut f64,
+) -> u8
+    ensures { λ r. ⌜ Told (MatElem n (now (x .entry)) (now (z .entry)) (now (re .entry)) (now (im .entry)) bra ket) (Parted (now (real .entry)) (now (imag .entry)) (now (real .exit)) (now (imag .exit)) r) ⌝ }
+{
+    let a = mat_elem_float::mat_elem_cmpnts_from_presorted(n, x, z, re, im, bra, ket);
+    let p = parted(a, *real, *imag);
+    *real = p.re;
+    *imag = p.im;
+    p.number
+}

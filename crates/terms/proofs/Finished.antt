@@ -1,0 +1,134 @@
+-- What a finished reduction leaves, read off the call's contract alone: the order and the lists were taken, the memory holds the rule's rows, and the log
+-- cut to its entry count holds the rule's entries. Assumes nothing.
+use Prim.Native.Nat.{ℕ, zero, suc, _+_, _*_, _<_, _≤_}
+use native.Mathlib.Decide.{decLe}
+use native.Mathlib.Omega.{arith}
+use mathlib.Core.Path.{_≡_, refl, sym, ap, _∙_, subst}
+use mathlib.Core.Bool.{Bool}
+use mathlib.Core.List.{List, [], _∷_}
+use lib.ListN.{length, take}
+use Rattle.pauli.specs.Pauli.{Pauli, _·_}
+use Rattle.pauli.specs.Row.{Row, padMul, mulRow, bitRow}
+use Rattle.pauli.proofs.Lists.{length-each}
+use Rattle.pauli.proofs.RowLaws.{pad-mul}
+use Rattle.encoding.specs.Limits.{wordsOf}
+use Rattle.encoding.specs.Set.{Mem, count, rowsIn, rowsOf, lay, Valid}
+use Rattle.encoding.specs.Refusals.{fault, setTests, leftOr}
+use Rattle.encoding.proofs.Faults.{joined-fault, least-none}
+use Rattle.encoding.proofs.Memory.{Proper, row-count, count-lay, read-lay, valid-lay}
+use Rattle.reduction.specs.Lists.{All}
+use Rattle.reduction.specs.Rule.{Entry, Run, mulAt, reduce}
+use Rattle.reduction.specs.Replay.{replay}
+use Rattle.reduction.specs.Log.{pairs, logged, capacity}
+use Rattle.reduction.specs.Capacity.{Reduced, done, full, capped}
+use Rattle.reduction.specs.Demand.{Asked}
+use Rattle.reduction.proofs.Lists.{all-mono, in-left}
+use Rattle.reduction.proofs.Run.{mulAt-ind}
+use Rattle.reduction.proofs.Log.{pairs-units, cut-logged}
+use Rattle.reduction.proofs.Stop.{run-fits, run-stops}
+use Rattle.reduction.proofs.Theorems.{log-replays, entries-good}
+use Rattle.terms.specs.declared.Canonicalized.the-variants.{Done}
+use Rattle.terms.specs.Refused.{listTests, reduceTests}
+use Rattle.terms.specs.Work.{Sound}
+use Rattle.terms.specs.Calls.{answerOf, rowsLeft, entriesLeft, outcomeOf, Reduces}
+use Rattle.terms.proofs.Scans.{asked-of}
+
+-- ---- rows of n qubits stay so
+
+pad-long : (n : ℕ) (a b : List Pauli) → length a ≡ n → length b ≡ n → length (padMul a b) ≡ n
+pad-long n a b p q = ap length (pad-mul a b (q ∙ sym p)) ∙ length-each _·_ a b (q ∙ sym p) ∙ p
+
+proper-mul : {n m : ℕ} {σ : ℕ → Row} (a b : ℕ) → a < m → b < m → Proper n m σ → Proper n m (mulAt (mulRow n) σ a b)
+unfolding mulRow
+proper-mul {n} {m} {σ} a b ha hb P =
+    record {
+      long = λ r h. mulAt-ind (mulRow n) (λ (s : Row). length (s .ps) ≡ n) σ a b r (λ _. pad-long n (σ a .ps) (σ b .ps) (P .long a ha) (P .long b hb)) (λ _. P .long r h);
+      small = λ r h. mulAt-ind (mulRow n) (λ (s : Row). s .p < 4) σ a b r (λ _. omega arith) (λ _. P .small r h);
+    }
+
+pub proper-replay : {n m : ℕ} (es : List Entry) (σ : ℕ → Row) → All (λ (e : Entry). (e .target < m) × (e .source < m)) es → Proper n m σ → Proper n m (replay (mulRow n) σ es)
+unfolding replay
+proper-replay [] σ h P = P
+proper-replay {n} (e ∷ es) σ h P = proper-replay es (mulAt (mulRow n) σ (e .target) (e .source)) (h .1) (proper-mul (e .target) (e .source) (h .0 .0) (h .0 .1) P)
+
+pub proper-set : {n : ℕ} {M : Mem} → Sound n M → Proper n (count M) (rowsOf n M)
+unfolding rowsIn
+proper-set {n} {M} s = record { long = λ r h. row-count n (wordsOf n) (s .valid) r h; small = λ r h. s .valid .small r }
+
+-- ---- a finished call
+
+pub record Finished (n : ℕ) (order listed extra : List ℕ) (M : Mem) (M′ : Mem) (log′ : List ℕ) (k t : ℕ) : Type 0 where
+  pub asked : Asked (n + n) (count M) order listed extra
+  pub no-fault : fault (reduceTests n M order listed extra) ≡ 0
+  pub entries : k ≡ length (reduce (bitRow n) (mulRow n) order listed extra (rowsOf n M) .log)
+  pub pivots : t ≡ reduce (bitRow n) (mulRow n) order listed extra (rowsOf n M) .t
+  -- the log cut to its entry count
+  pub cut-log : pairs (take (k + k) log′) ≡ reduce (bitRow n) (mulRow n) order listed extra (rowsOf n M) .log
+  pub as-many : count M′ ≡ count M
+  pub laid-out : M′ ≡ lay n (count M) (reduce (bitRow n) (mulRow n) order listed extra (rowsOf n M) .rows)
+
+-- which answer it was
+done-only : (f room : ℕ) (out : Reduced Row) (k t : ℕ) → Done k t ≡ answerOf f room out → (f ≡ 0) × ((s : Run Row) × (out ≡ done s) × (k ≡ length (s .log)) × (t ≡ s .t))
+done-only zero room (done s) k t e = (refl, (s, refl, (cc), (cc)))
+done-only zero room (full l σ) k t e = absurd (let z : _≡_ {A = ℕ} 0 1 = cc in omega arith)
+done-only (suc f) room out k t e = absurd (let z : _≡_ {A = ℕ} 0 1 = cc in omega arith)
+
+done-run : (bit : Row → ℕ → Bool) (mul′ : Row → Row → Row) (room : ℕ) (order listed extra : List ℕ) (σ : ℕ → Row) (s : Run Row) → capped bit mul′ room order listed extra σ ≡ done s → reduce bit mul′ order listed extra σ ≡ s
+done-run bit mul′ room order listed extra σ s e = go (decLe (length (reduce bit mul′ order listed extra σ .log)) room)
+  where
+    go : Dec (length (reduce bit mul′ order listed extra σ .log) ≤ room) → reduce bit mul′ order listed extra σ ≡ s
+    go (yes h) = let q = run-fits bit mul′ room order listed extra σ h in cc
+    go (no h) = absurd (let q = run-stops bit mul′ room order listed extra σ (omega arith) in let z : _≡_ {A = ℕ} 0 1 = cc in omega arith)
+
+pub finished : (n : ℕ) (order listed extra : List ℕ) (M : Mem) (log : List ℕ) {M′ : Mem} {log′ : List ℕ} (k t : ℕ) → Reduces n order listed extra M log M′ log′ (Done k t)
+    → Finished n order listed extra M M′ log′ k t
+finished n order listed extra M log {M′} {log′} k t L =
+    let f = fault (reduceTests n M order listed extra) in
+    let out = outcomeOf n order listed extra M log in
+    let d = done-only f (capacity log) out k t (L .answer) in
+    let z = d .0 in
+    let s = d .1 .0 in
+    let e : out ≡ done s = d .1 .1 in
+    let r : reduce (bitRow n) (mulRow n) order listed extra (rowsOf n M) ≡ s = done-run (bitRow n) (mulRow n) (capacity log) order listed extra (rowsOf n M) s e in
+    let p = least-none (fault (setTests n M)) (fault (listTests n (count M) order listed extra)) (joined-fault (setTests n M) (listTests n (count M) order listed extra) ∙ z) in
+    let rows : M′ ≡ lay n (count M) (s .rows) = L .rows ∙ ap (λ j. leftOr j M (lay n (count M) (rowsLeft out))) z ∙ ap (λ o. lay n (count M) (rowsLeft o)) e in
+    let log-is : log′ ≡ logged (s .log) log = L .entries ∙ ap (λ j. leftOr j log (logged (entriesLeft out) log)) z ∙ ap (λ o. logged (entriesLeft o) log) e in
+    record {
+      asked = asked-of n (count M) order listed extra (p .1);
+      no-fault = z;
+      entries = d .1 .2 ∙ ap (λ (q : Run Row). length (q .log)) (sym r);
+      pivots = d .1 .3 ∙ ap (λ (q : Run Row). q .t) (sym r);
+      cut-log =
+          ap (λ l. pairs (take (k + k) l)) log-is
+          ∙ ap (λ j. pairs (take (j + j) (logged (s .log) log))) (d .1 .2)
+          ∙ ap pairs (cut-logged (s .log) log) ∙ pairs-units (s .log)
+          ∙ ap (λ (q : Run Row). q .log) (sym r);
+      as-many = ap count rows ∙ count-lay n (wordsOf n) (count M) (s .rows) wide;
+      laid-out = rows ∙ ap (λ (q : Run Row). lay n (count M) (q .rows)) (sym r);
+    }
+  where
+    wide : n ≤ wordsOf n * 64
+    wide = omega arith
+
+-- the memory that it leaves is a row set that holds the rule's rows
+module _ {n : ℕ} {order listed extra : List ℕ} {M M′ : Mem} {log′ : List ℕ} {k t : ℕ} (s : Sound n M) (F : Finished n order listed extra M M′ log′ k t) where
+  rule-proper : Proper n (count M) (reduce (bitRow n) (mulRow n) order listed extra (rowsOf n M) .rows)
+  rule-proper =
+      let A = F .asked in
+      subst (Proper n (count M)) (log-replays (bitRow n) (mulRow n) order listed extra (rowsOf n M))
+      (proper-replay (reduce (bitRow n) (mulRow n) order listed extra (rowsOf n M) .log) (rowsOf n M)
+      (all-mono (λ e g. (A .rows-in (e .target) (g .target-in), A .rows-in (e .source) (in-left (e .source) listed extra (g .source-in))))
+      (reduce (bitRow n) (mulRow n) order listed extra (rowsOf n M) .log) (entries-good (bitRow n) (mulRow n) order listed extra (rowsOf n M)))
+      (proper-set s))
+
+  pub finished-rows : (r : ℕ) → r < count M → rowsOf n M′ r ≡ reduce (bitRow n) (mulRow n) order listed extra (rowsOf n M) .rows r
+  finished-rows r h =
+      ap (λ N. rowsOf n N r) (F .laid-out) ∙ read-lay n (wordsOf n) (count M) (reduce (bitRow n) (mulRow n) order listed extra (rowsOf n M) .rows) (s .valid .wide) r h (rule-proper .long r h)
+
+  pub finished-sound : Sound n M′
+  finished-sound =
+      record {
+        valid = subst (Valid n (wordsOf n)) (sym (F .laid-out)) (valid-lay n (wordsOf n) (count M) (reduce (bitRow n) (mulRow n) order listed extra (rowsOf n M) .rows) (s .valid .wide) rule-proper);
+        few-qubits = s .few-qubits;
+        few-rows = omega (arith, F .as-many, s .few-rows);
+      }
