@@ -11,17 +11,16 @@ use lib.Dec.{eqb}
 use lib.ListN.{length, getD}
 use lib.Seq.{ext-getD}
 use Rattle.pauli.specs.declared.PauliMatrix.the-variants.{I}
-use Rattle.pauli.specs.Pauli.{hasX, hasZ}
 use Rattle.pauli.specs.Row.{sameQubits, sameRow}
-use Rattle.encoding.specs.Words.{qubits, pack}
+use Rattle.encoding.specs.Words.{qubits}
 use Rattle.encoding.specs.Set.{row, Mem, count, rowsIn, Valid}
 use Rattle.encoding.proofs.Parts.{row-end, getD-part, length-part}
-use Rattle.encoding.proofs.Memory.{row-count}
 use Rattle.reduction.specs.Checker.{firstDiff}
 use Rattle.reduction.proofs.Cases.{not-so}
 use Rattle.reduction.proofs.PauliRows.{qubits→, →qubits}
 use native.Mathlib.Nat.{add-sub-cancel-left}
 use Rattle.replay.specs.Steps.{placeOf}
+use Rattle.replay.proofs.Words.{row-words}
 
 -- ---- the words of a row
 
@@ -47,12 +46,7 @@ module _ (n w : ℕ) {A B : Mem} (v : Valid n w A) (v′ : Valid n w B) (m : cou
   -- the same qubits are the same words
   back : sameQubits n (qubits n (row w k (A .xs)) (row w k (A .zs))) (qubits n (row w k (B .xs)) (row w k (B .zs))) ≡ true
       → (row w k (A .xs) ≡ row w k (B .xs)) × (row w k (A .zs) ≡ row w k (B .zs))
-  back e =
-      let h′ : k < count B = omega arith in
-      let l = row-count n w v k h in
-      let l′ = row-count n w v′ k h′ in
-      let q : qubits n (row w k (A .xs)) (row w k (A .zs)) ≡ qubits n (row w k (B .xs)) (row w k (B .zs)) = ext-getD I _ _ (l ∙ sym l′) (λ i g. qubits→ n _ _ e i (omega arith)) in
-      (v .packed k h .x-is ∙ ap (pack hasX w) q ∙ sym (v′ .packed k h′ .x-is), v .packed k h .z-is ∙ ap (pack hasZ w) q ∙ sym (v′ .packed k h′ .z-is))
+  back e = row-words n w v v′ m k h (qubits→ n _ _ e)
 
   -- the words are the same: the phase decides
   pub row-same : row w k (A .xs) ≡ row w k (B .xs) → row w k (A .zs) ≡ row w k (B .zs) → eqb (getD (A .es) k 0) (getD (B .es) k 0) ≡ sameRow n (rowsIn n w A k) (rowsIn n w B k)

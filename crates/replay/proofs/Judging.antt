@@ -22,7 +22,7 @@ use Rattle.reduction.specs.Replay.{replay}
 use Rattle.reduction.specs.Log.{pairs}
 use Rattle.reduction.specs.Form.{zeroIn, onlyIn, reducedFrom, reduced}
 use Rattle.reduction.specs.Checker.{firstBad, firstDiff, verdictBy, verdict, working, workingBy}
-use Rattle.reduction.specs.Demand.{Asked}
+use Rattle.reduction.specs.Demand.{Asked, Good}
 use Rattle.reduction.proofs.Lists.{all-mono, in-left, in-right}
 use Rattle.reduction.proofs.Entries.{bad-none}
 use Rattle.terms.specs.Leaves.{bitIn, mulIn}
@@ -39,6 +39,11 @@ use Rattle.replay.proofs.Log.{place-in, place-out, take-entries}
 -- both numbers of an entry are rows
 abbrev pub Inside : ℕ → Entry → Type 0
 Inside m e = (e .target < m) × (e .source < m)
+
+-- those of good entries are
+pub good-inside : {N m : ℕ} {order listed extra : List ℕ} → Asked N m order listed extra → (es : List Entry) → All (Good listed extra) es → All (Inside m) es
+good-inside {N} {m} {order} {listed} {extra} a es g =
+    all-mono (λ d h. (a .rows-in (d .target) (h .target-in), a .rows-in (d .source) (in-left (d .source) listed extra (h .source-in)))) es g
 
 record Replayed (n : ℕ) (M : Mem) (σ : ℕ → Row) (M′ : Mem) : Type 0 where
   sound : Sound n M′
@@ -148,9 +153,7 @@ module _ (T : Task) (L : Claim) (s : Passed T (L .rows)) {b : ℕ} (e : placeOf 
     no-bad = place-out (length (L .log) / 2) b h e
 
     inside : All (Inside (count (T .start))) (pairs (L .log))
-    inside =
-        all-mono (λ d g. (s .of-task .asked .rows-in (d .target) (g .target-in), s .of-task .asked .rows-in (d .source) (in-left (d .source) (T .listed) (T .extra) (g .source-in)))) (pairs (L .log))
-        (bad-none (T .listed) (T .extra) 0 (pairs (L .log)) no-bad)
+    inside = good-inside (s .of-task .asked) (pairs (L .log)) (bad-none (T .listed) (T .extra) 0 (pairs (L .log)) no-bad)
 
     module _ {k : ℕ} {M : Mem} (z : k ≡ length (L .log) / 2) (m : M ≡ redone (T .n) (take k (pairs (L .log))) (T .start)) where
       after : Replayed (T .n) (T .start) (replay (mulRow (T .n)) (rowsOf (T .n) (T .start)) (pairs (L .log))) M

@@ -1,5 +1,5 @@
--- Rows of n qubits with exponents below 4: those of a set that refusals 1 to 5 pass, and those after a replay. A set laid from such rows is passed too.
--- Assumes nothing.
+-- Refusals 1 to 5 of a set, and what it holds: a set that they pass holds rows of n qubits with exponents below 4, whatever its words; and they pass a row
+-- set within the limits. Assumes nothing.
 use mathlib.Core.Path.{_≡_, refl, sym, ap, ap₂, _∙_}
 use mathlib.Core.Bool.{false, _||_}
 use mathlib.Core.List.{List, [], _∷_}
@@ -7,12 +7,9 @@ use Prim.Native.Nat.{ℕ, suc, _*_, _≤_, _<_}
 use native.Mathlib.Nat.{le-of-suc-le-suc}
 use native.Mathlib.Omega.{arith}
 use borrow.Author.Tests.{le-ltb, ltb-false, eq-eqb}
-use lib.Dec.{eqb, ltb}
+use lib.Dec.{ltb}
 use lib.ListN.{length, getD, drop}
-use Rattle.pauli.specs.Pauli.{Pauli, _·_}
-use Rattle.pauli.specs.Row.{Row, mulRow}
-use Rattle.pauli.proofs.Lists.{length-each}
-use Rattle.pauli.proofs.RowLaws.{pad-mul}
+use Rattle.pauli.specs.Pauli.{Pauli}
 use Rattle.encoding.specs.Limits.{maxQubits, maxRows, wordsOf}
 use Rattle.encoding.specs.Words.{unpack}
 use Rattle.encoding.specs.Set.{row, Mem, count, rowsIn, rowsOf, Valid}
@@ -24,13 +21,8 @@ use Rattle.encoding.proofs.Scan.{some-none}
 use Rattle.encoding.proofs.Spare.{any-never}
 use Rattle.encoding.proofs.Faults.{pass, lengths-fit}
 use Rattle.encoding.proofs.Memory.{Proper, clean}
-use Rattle.reduction.specs.Lists.{All}
-use Rattle.reduction.specs.Rule.{Entry, mulAt}
-use Rattle.reduction.specs.Replay.{replay}
-use Rattle.reduction.proofs.Cases.{cond-ind}
-use Rattle.replay.proofs.Judging.{Inside}
 
--- ---- rows that are read
+-- ---- what a set that is passed holds
 
 pub read-proper : (n : ℕ) (M : Mem) → fault (setTests n M) ≡ 0 → Proper n (count M) (rowsOf n M)
 unfolding rowsIn badPhases
@@ -47,23 +39,6 @@ read-proper n M e =
           length-qubits n (row w r (M .xs)) (row w r (M .zs)) (row-long m w r (M .zs) h (l .1) ∙ sym x) (omega (arith, x));
       small = λ r h. let g = ltb-false 3 (getD (M .es) r 0) (some-none (λ e. ltb 3 e) 0 (M .es) (p5 .0) r h) in omega arith;
     }
-
--- ---- rows after a product, and after a replay
-
-product-proper : (n m : ℕ) {σ : ℕ → Row} (a b : ℕ) → a < m → b < m → Proper n m σ → Proper n m (mulAt (mulRow n) σ a b)
-unfolding mulAt mulRow
-product-proper n m {σ} a b ha hb p =
-    record {
-      long = λ r h. cond-ind (λ (s : Row). length (s .ps) ≡ n) (eqb r a)
-          (λ _. ap length (pad-mul (σ a .ps) (σ b .ps) (p .long b hb ∙ sym (p .long a ha))) ∙ length-each _·_ (σ a .ps) (σ b .ps) (p .long b hb ∙ sym (p .long a ha)) ∙ p .long a ha)
-          (λ _. p .long r h);
-      small = λ r h. cond-ind (λ (s : Row). s .p < 4) (eqb r a) (λ _. omega arith) (λ _. p .small r h);
-    }
-
-pub replay-proper : (n m : ℕ) {σ : ℕ → Row} (es : List Entry) → All (Inside m) es → Proper n m σ → Proper n m (replay (mulRow n) σ es)
-unfolding replay
-replay-proper n m [] h p = p
-replay-proper n m (e ∷ es) h p = replay-proper n m es (h .1) (product-proper n m (e .target) (e .source) (h .0 .0) (h .0 .1) p)
 
 -- ---- a row set within the limits is passed
 

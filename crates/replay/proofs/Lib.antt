@@ -8,4 +8,4 @@ pub mod Laying
 pub mod Looks
 pub mod Demand
 pub mod OwnLog
-pub mod Whole
+pub mod Examples

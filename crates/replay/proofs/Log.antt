@@ -79,7 +79,7 @@ unfolding redone
 redone-more n [] e M = refl
 redone-more n (d ∷ es) e M = redone-more n es e (mulIn n (d .target) (d .source) M)
 
-length-entries : (l : List ℕ) → length (pairs l) ≡ length l / 2
+pub length-entries : (l : List ℕ) → length (pairs l) ≡ length l / 2
 unfolding pairs
 length-entries [] = refl
 length-entries (x ∷ []) = refl
