@@ -53,7 +53,7 @@ pub struct Named {
     pub c: Cursor,
 }
 
-pub fn read(buf: &mut [u8; ROOM], c: Cursor) -> Named {
+pub(crate) fn read(buf: &mut [u8; ROOM], c: Cursor) -> Named {
     let mut s = [b' '; NAME];
     let l = linein::name(buf, c, &mut s);
     let c = l.c;
