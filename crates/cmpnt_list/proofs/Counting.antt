@@ -17,11 +17,12 @@ use Rattle.pauli.specs.Rows.{holding, countOf}
 use Rattle.pauli.proofs.Every.{everyP, atP}
 use Rattle.encoding.specs.Words.{odd, bit, word, unpack}
 use Rattle.encoding.specs.Set.{part, Mem, count, rowsIn, Valid}
-use Rattle.encoding.proofs.Padding.{AllI}
 use Rattle.encoding.proofs.Memory.{clean, row-count}
+use Rattle.encoding.proofs.Padding.{Only}
+use Rattle.encoding.proofs.RowWords.{inWords, first-n}
 use Rattle.products.proofs.Masks.{Mask, var, inv, both, either, Below, counted, place, places, everyL, counts}
 use Rattle.cmpnt_list.specs.Workers.{masked, fromMasks, RowAt}
-use Rattle.cmpnt_list.proofs.Views.{inWords, words-at, first-n}
+use Rattle.cmpnt_list.proofs.Views.{words-at}
 
 -- ---- what the masks count of a list, Pauli by Pauli
 
@@ -69,7 +70,7 @@ masked-le p [] = omega (arith, masked-none p)
 masked-le p (q ∷ l) = omega (arith, masked-cons p q l, one-le p q, masked-le p l)
 
 -- I at n and above counts for nothing
-masked-take : (p : Pauli) (n : ℕ) (l : List Pauli) → AllI (drop n l) → masked p l ≡ masked p (take n l)
+masked-take : (p : Pauli) (n : ℕ) (l : List Pauli) → Only I (drop n l) → masked p l ≡ masked p (take n l)
 masked-take p zero [] h = refl
 masked-take p zero (q ∷ l) h = masked-cons p q l ∙ ap₂ _+_ (ap (one p) (h 0) ∙ one-none p) (masked-take p zero l (λ k. h (suc k)) ∙ masked-none p) ∙ sym (masked-none p)
 masked-take p (suc n) [] h = refl

@@ -2,20 +2,15 @@
 use mathlib.Core.Path.{_≡_, refl, sym, ap, ap₂, _∙_, subst}
 use mathlib.Core.Bool.{Bool, true, false}
 use mathlib.Core.Logic.{_⊎_, inl, inr}
-use mathlib.Core.List.{List, [], _∷_}
+use mathlib.Core.List.{List, []}
 use Prim.Native.Nat.{ℕ, _+_, _*_, _/_, _%_, _^_, _≤_, _<_, zero-le}
 use native.Mathlib.Nat.{div-add-mod', zero-div, not-suc-le-zero, ne-of-lt}
 use native.Mathlib.Decide.{ℕ-discrete, decLt}
 use native.Mathlib.Omega.{arith}
 use borrow.Author.Count.{below-more}
 use lib.Arith.{digits-div, digits-mod, lt-of-le-ne}
-use lib.Dec.{eqb, eqb→eq}
-use lib.ListN.{length, getD, set, take, length-set, List·getD-eq-default}
+use lib.ListN.{length, getD, set, length-set, List·getD-eq-default}
 use lib.Seq.{getD-set-same, getD-set-other}
-use Rattle.pauli.specs.Pauli.{Pauli, clash, clashes}
-use Rattle.pauli.specs.Row.{Row}
-use Rattle.pauli.specs.Rows.{commute}
-use Rattle.pauli.proofs.Every.{everyP, atP}
 use Rattle.encoding.specs.Limits.{wordsOf}
 use Rattle.encoding.specs.Words.{odd, bitAt, withBit}
 use Rattle.encoding.specs.Set.{list}
@@ -25,21 +20,6 @@ use Rattle.encoding.proofs.BitLaws.{lay-of}
 use Rattle.encoding.proofs.Qubits.{bit-same, bit-other}
 use Rattle.cmpnt_list.specs.Calls.{laidMatrix}
 use Rattle.cmpnt_list.specs.Workers.{Seen, Filled, Marked, Zeros}
-
--- ---- two rows commute in either order
-
-clash-sym : (p q : Pauli) → clash p q ≡ clash q p
-clash-sym p q = eqb→eq (clash p q) (clash q p) (atP (λ q. eqb (clash p q) (clash q p)) (atP (λ p. everyP (λ q. eqb (clash p q) (clash q p))) tt p) q)
-
-clashes-sym : (a b : List Pauli) → clashes a b ≡ clashes b a
-clashes-sym [] [] = refl
-clashes-sym [] (q ∷ b) = refl
-clashes-sym (p ∷ a) [] = refl
-clashes-sym (p ∷ a) (q ∷ b) = ap₂ _+_ (clash-sym p q) (clashes-sym a b)
-
-pub commute-sym : (n : ℕ) (a b : Row) → commute n a b ≡ commute n b a
-unfolding commute
-commute-sym n a b = ap (λ (k : ℕ). eqb (k % 2) 0) (clashes-sym (take n (a .ps)) (take n (b .ps)))
 
 -- ---- i words are cleared
 

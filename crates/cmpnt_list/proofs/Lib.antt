@@ -1,13 +1,9 @@
 pub mod Tests
-pub mod Cutting
 pub mod Views
 pub mod OneQubit
 pub mod Counting
-pub mod Every
 pub mod Filling
 pub mod Pairing
 pub mod Acting
-pub mod BitsBack
-pub mod Passed
 pub mod Meaning
 pub mod Determined

@@ -10,7 +10,7 @@ use native.Mathlib.Decide.{ℕ-discrete}
 use native.Mathlib.Omega.{arith}
 use borrow.Author.Tests.{leb-false}
 use lib.Dec.{leb}
-use lib.ListN.{length, getD, take, set, length-set, List·getD-eq-default}
+use lib.ListN.{length, getD, take, length-set, List·getD-eq-default}
 use lib.Seq.{ext-getD, getD-set-same, getD-set-other}
 use Rattle.pauli.specs.Gauss.{_⊗_, ipow}
 use Rattle.pauli.specs.Pauli.{Pauli, _·_, turn}
@@ -21,7 +21,7 @@ use Rattle.pauli.specs.Matrix.{times, scaled, Same, Commute, matrixOf, rowMatri
 use Rattle.pauli.proofs.Meaning.{matrix-product, pairwise-product, commute-iff, central-iff, count-held, counts-add-up, action}
 use Rattle.encoding.specs.Limits.{maxRows, wordsOf}
 use Rattle.encoding.specs.Words.{bitAt}
-use Rattle.encoding.specs.Set.{Mem, count, rowsIn, rowsOf, list, lay, Valid}
+use Rattle.encoding.specs.Set.{Mem, count, rowsIn, rowsOf, list, lay, Valid, Sound, stateOf, layState}
 use Rattle.encoding.specs.Refusals.{fault, joined, setTests, numberTests, stateTests, tooLarge, doneOr, leftOr}
 use Rattle.encoding.proofs.Faults.{joined-fault, least-none, First, refused-exactly}
 use Rattle.encoding.proofs.Memory.{row-count, read-lay, valid-lay, count-lay, Proper}
@@ -30,17 +30,17 @@ use Rattle.pauli.proofs.Lists.{length-each}
 use Rattle.pauli.proofs.OnQubits.{take-same}
 use Rattle.pauli.proofs.RowLaws.{pad-mul}
 use Rattle.encoding.specs.declared.Answer.the-variants.{Done, Refused}
-use Rattle.cmpnt_list.specs.Calls.{gotOr, tallyOr, phaseOr, truthOr, rowFault, rowsFault, qubitFault, matrixFault, pairwiseFault, actionFault, laidMatrix, commuting, pairs, stateOf, layState, getQubit, SetQubit, countIn, phaseOfMul, commutesWith, belongsToCentralizer, CompatibilityMatrix, MulPairwise, ImulState}
-use Rattle.cmpnt_list.specs.Workers.{Ready, Asked}
+use Rattle.encoding.proofs.BitLaws.{bit-lay}
+use Rattle.encoding.proofs.States.{state-long, length-state, state-back}
+use Rattle.encoding.proofs.Sets.{read-passes}
+use Rattle.cmpnt_list.specs.Calls.{gotOr, tallyOr, phaseOr, truthOr, rowFault, rowsFault, qubitFault, matrixFault, pairwiseFault, actionFault, laidMatrix, commuting, pairs, getQubit, SetQubit, countIn, phaseOfMul, commutesWith, belongsToCentralizer, CompatibilityMatrix, MulPairwise, ImulState}
+use Rattle.cmpnt_list.specs.Workers.{Asked}
 use Rattle.cmpnt_list.specs.declared.Got.the-variants as got
 use Rattle.cmpnt_list.specs.declared.Tally.the-variants as tally
 use Rattle.cmpnt_list.specs.declared.Phase.{Phase}
 use Rattle.cmpnt_list.specs.declared.Phase.the-variants as phase
 use Rattle.cmpnt_list.specs.declared.Truth.the-variants as truth
 use Rattle.cmpnt_list.proofs.OneQubit.{with-here, with-other}
-use Rattle.cmpnt_list.proofs.BitsBack.{bit-lay, length-state, state-back}
-use Rattle.cmpnt_list.proofs.Acting.{state-long}
-use Rattle.cmpnt_list.proofs.Passed.{passed}
 use Rattle.cmpnt_list.proofs.Tests.{Words64, asked-of, pairwise-asked, both-small}
 
 -- ---- a call that gives a value refuses nothing, and the value is the definition's
@@ -303,7 +303,7 @@ module _ (n : ℕ) {M : Mem} (w : Words64 M) (r q : ℕ) (p : Pauli) {M′ : Mem
       byte k (no ne) = ap (λ (x : Row). x .p) (with-other (rowsOf n M) r q p k ne)
 
   -- the set is again one that every call takes, and get_qubit gives what was set
-  pub set-ready : Ready n M′
+  pub set-ready : Sound n M′
   set-ready =
       record {
         valid = subst (Valid n (wordsOf n)) (sym laid) (valid-lay n (wordsOf n) (count M) (withQubit (rowsOf n M) r q p) (asked .ready .valid .wide) proper);
@@ -314,4 +314,4 @@ module _ (n : ℕ) {M : Mem} (w : Words64 M) (r q : ℕ) (p : Pauli) {M′ : Mem
   pub set-then-get : getQubit n M′ r q ≡ got.Is p
   unfolding getQubit
   set-then-get =
-      ap₂ gotOr (passed n set-ready (leb (count M′) r || leb n q) (ap (λ (k : ℕ). leb k r || leb n q) set-count ∙ asked .small)) set-here
+      ap₂ gotOr (read-passes n M′ set-ready (leb (count M′) r || leb n q) (ap (λ (k : ℕ). leb k r || leb n q) set-count ∙ asked .small)) set-here

@@ -21,10 +21,11 @@ use Rattle.encoding.proofs.Qubits.{read-back, others-same}
 use Rattle.encoding.proofs.Reading.{length-qubits}
 use Rattle.encoding.proofs.Parts.{fit-part}
 use Rattle.encoding.proofs.Memory.{packed-of, clean, x-row, z-row}
+use Rattle.encoding.proofs.Sets.{laid-by}
 use Rattle.products.specs.Leaves.{Outside}
 use Rattle.products.proofs.PartLaws.{row-other}
 use Rattle.cmpnt_list.specs.Workers.{RowAt}
-use Rattle.cmpnt_list.proofs.Views.{part-is, put-row, put-rest, laid-by}
+use Rattle.cmpnt_list.proofs.Views.{part-is, put-row, put-rest}
 
 -- ---- a row's two parts: n qubits in w words each
 

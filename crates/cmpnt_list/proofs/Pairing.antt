@@ -1,51 +1,23 @@
 -- The pairwise product, row by row: what the row leaf leaves in the parts that it is lent, said of the sets' rows. Assumes nothing.
-use mathlib.Core.Path.{_≡_, refl, sym, ap, ap₂, _∙_, subst}
+use mathlib.Core.Path.{_≡_, refl, sym, ap, _∙_, subst}
 use mathlib.Core.List.{List}
-use Prim.Native.Nat.{ℕ, _+_, _-_, _*_, _%_, _≤_, _<_}
+use Prim.Native.Nat.{ℕ, _+_, _-_, _*_, _<_}
 use native.Mathlib.Nat.{ne-of-lt, not-suc-le-zero}
-use native.Mathlib.Omega.{arith}
 use borrow.Author.Count.{below-more}
-use borrow.Rule.Slice.PartMut.{putMid}
 use lib.ListN.{length, getD, set, length-set}
-use lib.Seq.{take-all, getD-set-same, getD-set-other}
-use Rattle.pauli.specs.Pauli.{Pauli, hasX, hasZ, mul, phases}
+use lib.Seq.{getD-set-same, getD-set-other}
+use Rattle.pauli.specs.Pauli.{hasX, hasZ, mul}
 use Rattle.pauli.specs.Rows.{pairRow}
 use Rattle.encoding.specs.Limits.{wordsOf}
-use Rattle.encoding.specs.Words.{unpack, pack}
-use Rattle.encoding.specs.Set.{part, row, Mem, mem, count}
+use Rattle.encoding.specs.Words.{pack}
+use Rattle.encoding.specs.Set.{row, Mem, mem, count}
 use Rattle.encoding.proofs.Memory.{x-row}
-use Rattle.products.specs.Leaves.{SameLength, Product, ProductAt, RowProduct, shortest₆}
-use Rattle.products.proofs.PartLaws.{parts-same, product-at, row-other}
+use Rattle.encoding.proofs.RowWords.{inWords, product-is, phase-is}
+use Rattle.encoding.proofs.Sets.{Holds}
+use Rattle.products.specs.Leaves.{SameLength, ProductAt}
+use Rattle.products.proofs.PartLaws.{row-other}
 use Rattle.cmpnt_list.specs.Calls.{pairs}
 use Rattle.cmpnt_list.specs.Workers.{BothReady, ThirdReady, RowAt}
-use Rattle.cmpnt_list.proofs.Views.{inWords, product-is, phase-is, Holds}
-
--- ---- the leaf on six parts of the same length
-
-pub whole : (k : ℕ) (l : List ℕ) → k ≡ length l → part 0 k l ≡ l
-whole k l e = take-all (k - 0) l (omega arith)
-
-same-product : {lx lz rx rz ox oz ox′ oz′ : List ℕ} {e : ℕ} → SameLength (length lx) lx lz rx rz ox oz → RowProduct lx lz rx rz ox oz ox′ oz′ e → Product lx lz rx rz ox′ oz′ e
-same-product {lx} {lz} {rx} {rz} {ox} {oz} {ox′} {oz′} {e} s p =
-    let k = shortest₆ lx lz rx rz ox oz in
-    let is : k ≡ length lx = omega (arith, s .in-lz, s .in-rx, s .in-rz, s .in-ox, s .in-oz) in
-    let l : unpack (part 0 k lx) (part 0 k lz) ≡ unpack lx lz = ap₂ unpack (whole k lx is) (whole k lz (is ∙ sym (s .in-lz))) in
-    let r : unpack (part 0 k rx) (part 0 k rz) ≡ unpack rx rz = ap₂ unpack (whole k rx (is ∙ sym (s .in-rx))) (whole k rz (is ∙ sym (s .in-rz))) in
-    record {
-      x-words = sym (whole k ox′ (is ∙ sym (p .x-rest .long ∙ s .in-ox))) ∙ p .here .x-words ∙ ap₂ (pack hasX) (ap length (whole k lx is)) (ap₂ mul l r);
-      z-words = sym (whole k oz′ (is ∙ sym (p .z-rest .long ∙ s .in-oz))) ∙ p .here .z-words ∙ ap₂ (pack hasZ) (ap length (whole k lx is)) (ap₂ mul l r);
-      exponent = p .here .exponent ∙ ap₂ (λ (a b : List Pauli). phases a b % 4) l r;
-    }
-
--- the parts from a to e were lent, and put back
-pub part-product : {lx lz rx rz ox oz : List ℕ} (a e : ℕ) {px pz : List ℕ} {p : ℕ} → a ≤ e → e ≤ length lx → SameLength (length lx) lx lz rx rz ox oz
-    → length px ≡ length (part a e ox) → length pz ≡ length (part a e oz)
-    → RowProduct (part a e lx) (part a e lz) (part a e rx) (part a e rz) (part a e ox) (part a e oz) px pz p
-    → ProductAt a e lx lz rx rz ox oz (putMid a (e - a) ox px) (putMid a (e - a) oz pz) p
-part-product {lx} {lz} {rx} {rz} {ox} {oz} a e h k s hx hz q =
-    let to : (l : List ℕ) → length l ≡ length lx → e ≤ length l = λ l g. omega arith in
-    product-at ox oz a e h (to ox (s .in-ox)) (to oz (s .in-oz)) hx hz
-    (same-product (parts-same lx lz rx rz ox oz a e h k (to lz (s .in-lz)) (to rx (s .in-rx)) (to rz (s .in-rz)) (to ox (s .in-ox)) (to oz (s .in-oz))) q)
 
 -- ---- the third set, of which r rows are written
 
@@ -86,11 +58,11 @@ module _ (n : ℕ) {L R : Mem} (b : BothReady n L R) where
           x-row =
               below-more (λ (k : ℕ). row w k ox′ ≡ pack hasX w (pairs n L R k .ps)) r
               (λ k i. row-other w k r (q .x-rest) (ne-of-lt i) ∙ h .x-row k i)
-              (q .here .x-words ∙ ap (λ (j : ℕ). pack hasX j (mul (inWords w L r) (inWords w R r))) long ∙ product-is n w l R (b .right .valid) hasX refl r hr hr′);
+              (q .here .x-words ∙ ap (λ (j : ℕ). pack hasX j (mul (inWords w L r) (inWords w R r))) long ∙ product-is n w l R (b .right .valid) hasX refl r r hr hr′);
           z-row =
               below-more (λ (k : ℕ). row w k oz′ ≡ pack hasZ w (pairs n L R k .ps)) r
               (λ k i. row-other w k r (q .z-rest) (ne-of-lt i) ∙ h .z-row k i)
-              (q .here .z-words ∙ ap (λ (j : ℕ). pack hasZ j (mul (inWords w L r) (inWords w R r))) long ∙ product-is n w l R (b .right .valid) hasZ refl r hr hr′);
+              (q .here .z-words ∙ ap (λ (j : ℕ). pack hasZ j (mul (inWords w L r) (inWords w R r))) long ∙ product-is n w l R (b .right .valid) hasZ refl r r hr hr′);
           byte =
               below-more (λ (k : ℕ). getD (set op r p) k 0 ≡ pairs n L R k .p) r
               (λ k i. getD-set-other op r k p 0 (ne-of-lt i) ∙ h .byte k i)

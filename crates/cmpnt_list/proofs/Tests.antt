@@ -1,51 +1,23 @@
 -- From the tests of a call to its answer, and to what its worker may ask. Assumes nothing.
-use mathlib.Core.Path.{_≡_, refl, sym, ap, ap₂, _∙_}
-use mathlib.Core.Bool.{Bool, true, false, cond, not, _||_}
-use mathlib.Core.List.{List, []}
-use Prim.Native.Nat.{ℕ, zero, suc, _*_, _≤_, _<_}
-use native.Mathlib.Nat.{suc-ne-zero}
+use mathlib.Core.Path.{_≡_, refl, sym, ap, _∙_}
+use mathlib.Core.Bool.{Bool, false, cond, not, _||_}
+use mathlib.Core.List.{[]}
+use Prim.Native.Nat.{ℕ, _*_, _≤_, _<_}
 use borrow.Author.Tests.{leb-false, lt-ltb, le-ltb, eqb-true, not-false}
 use lib.Dec.{eqb, leb}
 use lib.ListN.{length}
 use Rattle.encoding.specs.Limits.{maxRows, wordsOf}
 use Rattle.encoding.specs.Set.{Mem, count, Valid}
-use Rattle.encoding.specs.Refusals.{faultFrom, fault, joined, least, manyQubits, manyRows, badLengths, setTests, outTests, numberTests}
-use Rattle.encoding.proofs.Faults.{pass, joined-fault, least-none, lengths-fit}
+use Rattle.encoding.specs.Refusals.{faultFrom, fault, joined, least, manyQubits, manyRows, badLengths, setTests, outTests, numberTests, differentRows}
+use Rattle.encoding.proofs.Faults.{pass, joined-fault, both-parts, least-none, not-large, number-is, different-is, lengths-fit}
 use Rattle.encoding.proofs.WordLaws.{Fit}
-use Rattle.encoding.proofs.Memory.{within-limits, valid-of}
+use Rattle.encoding.proofs.Memory.{valid-of}
+use Rattle.encoding.proofs.Sets.{sound-of}
 use Rattle.encoding.proofs.Scan.{none-of}
-use Rattle.cmpnt_list.specs.Calls.{readFault, pairwiseFault, matrixTests, differentRows}
-use Rattle.cmpnt_list.specs.Workers.{Ready, Asked, AskedMatrix, BothReady, ThirdReady}
-
--- ---- an answer by its number: where it is not 0 the refusal, where it is 0 what stands there
-
-pub refusing : {A : Type 0} (refuse by : ℕ → A) → ((k : ℕ) → refuse (suc k) ≡ by (suc k)) → {f g : ℕ} → f ≡ g → (f ≡ 0 → ⊥) → refuse f ≡ by g
-refusing {A} refuse by step {f} {g} e ne = go f ne ∙ ap by e
-  where
-    go : (k : ℕ) → (k ≡ 0 → ⊥) → refuse k ≡ by k
-    go zero h = absurd (h refl)
-    go (suc k) h = step k
-
-pub passing : {A : Type 0} (by : ℕ → A) {f g : ℕ} → f ≡ g → f ≡ 0 → by 0 ≡ by g
-passing by e z = ap by (sym z ∙ e)
-
--- ---- the smaller number of two parts is the number of both
-
-pub both-parts : {f a b : ℕ} (ts us : List Bool) → a ≡ fault ts → b ≡ fault us → f ≡ least a b → f ≡ fault (joined ts us)
-both-parts ts us ea eb ef = ef ∙ ap₂ least ea eb ∙ joined-fault ts us
+use Rattle.cmpnt_list.specs.Calls.{readFault, pairwiseFault, matrixTests}
+use Rattle.cmpnt_list.specs.Workers.{Asked, AskedMatrix, BothReady, ThirdReady}
 
 -- ---- a set that is read, and numbers
-
-pub ready-of : (n : ℕ) (M : Mem) {a : ℕ} → a ≡ fault (setTests n M) → (a ≡ 0 → Valid n (wordsOf n) M) → a ≡ 0 → Ready n M
-ready-of n M e v z = let l = within-limits n M (sym e ∙ z) in record { valid = v z; few-qubits = l .0; few-rows = l .1 }
-
-number-is : (large : Bool) → cond large 6 0 ≡ fault (numberTests large)
-unfolding faultFrom
-number-is large = refl
-
-not-large : (k : ℕ) (large : Bool) → cond large (suc k) 0 ≡ 0 → large ≡ false
-not-large k true e = absurd (suc-ne-zero k e)
-not-large k false e = refl
 
 module _ (n : ℕ) (M : Mem) (large : Bool) {f a b : ℕ} (ea : a ≡ fault (setTests n M)) (eb : b ≡ cond large 6 0) (ef : f ≡ least a b) where
   pub read-fault : f ≡ readFault n M large
@@ -54,7 +26,7 @@ module _ (n : ℕ) (M : Mem) (large : Bool) {f a b : ℕ} (ea : a ≡ fault (set
   pub read-asked : (a ≡ 0 → Valid n (wordsOf n) M) → f ≡ 0 → Asked n M large
   read-asked v z =
       let p = least-none a b (sym ef ∙ z) in
-      record { ready = ready-of n M ea v (p .0); small = not-large 5 large (sym eb ∙ p .1) }
+      record { ready = sound-of n M ea v (p .0); small = not-large 5 large (sym eb ∙ p .1) }
 
 -- the same from the number alone, where the words are of 64 bits
 pub record Words64 (M : Mem) : Type 0 where
@@ -64,7 +36,7 @@ pub record Words64 (M : Mem) : Type 0 where
 pub asked-of : (n : ℕ) {M : Mem} → Words64 M → (large : Bool) → readFault n M large ≡ 0 → Asked n M large
 asked-of n {M} f large z =
     let p = least-none (fault (setTests n M)) (fault (numberTests large)) (joined-fault (setTests n M) (numberTests large) ∙ z) in
-    record { ready = ready-of n M refl (valid-of n M (f .x-fit) (f .z-fit)) (p .0); small = not-large 5 large (number-is large ∙ p .1) }
+    record { ready = sound-of n M refl (valid-of n M (f .x-fit) (f .z-fit)) (p .0); small = not-large 5 large (number-is large ∙ p .1) }
 
 -- two numbers below their limits
 pub both-small : (m r n q : ℕ) → (leb m r || leb n q) ≡ false → (r < m) × (q < n)
@@ -87,7 +59,7 @@ matrix-asked n M size {f} {a} {b} ea eb ef v z =
     let q = pass 0 false _ (sym eb ∙ p .1) in
     let r = pass 1 (manyRows (count M)) _ (q .1) in
     let s = pass 2 (not (eqb size (count M * wordsOf (count M)))) [] (r .1) in
-    record { ready = ready-of n M ea v (p .0); fits = eqb-true size (count M * wordsOf (count M)) (not-false _ (s .0)) }
+    record { ready = sound-of n M ea v (p .0); fits = eqb-true size (count M * wordsOf (count M)) (not-false _ (s .0)) }
 
 -- ---- two sets that are read, and a third that is written
 
@@ -95,11 +67,7 @@ pub both-ready : (n : ℕ) (L R : Mem) {f a b : ℕ} → a ≡ fault (setTests n
     → (a ≡ 0 → Valid n (wordsOf n) L) → (b ≡ 0 → Valid n (wordsOf n) R) → f ≡ 0 → BothReady n L R
 both-ready n L R {f} {a} {b} ea eb ef v u z =
     let p = least-none a b (sym ef ∙ z) in
-    record { left = ready-of n L ea v (p .0); right = ready-of n R eb u (p .1) }
-
-pub different-is : (m k : ℕ) → cond (not (eqb k m)) 3 0 ≡ fault (differentRows m k)
-unfolding faultFrom
-different-is m k = refl
+    record { left = sound-of n L ea v (p .0); right = sound-of n R eb u (p .1) }
 
 pub third-ready : (n m k : ℕ) (O : Mem) {f a b : ℕ} → a ≡ cond (not (eqb k m)) 3 0 → b ≡ fault (outTests n m O) → f ≡ least a b → f ≡ 0 → ThirdReady n m k O
 third-ready n m k O {f} {a} {b} ea eb ef z =

@@ -5,15 +5,15 @@ use mathlib.Core.Bool.{Bool, false, not, _||_}
 use mathlib.Core.List.{List, [], _∷_}
 use Prim.Native.Nat.{ℕ, zero, suc, _*_}
 use lib.Dec.{eqb}
-use lib.ListN.{length, getD, take}
+use lib.ListN.{length, getD}
 use Rattle.pauli.specs.Pauli.{Pauli}
 use Rattle.pauli.specs.declared.PauliMatrix.the-variants.{I}
 use Rattle.pauli.specs.Row.{Row}
 use Rattle.pauli.specs.Rows.{phaseOf, commute, central, countOf, pairRow, withQubit, actOn, actPhaseOn}
 use Rattle.encoding.specs.Limits.{wordsOf}
-use Rattle.encoding.specs.Words.{unbits, pack, layRows}
-use Rattle.encoding.specs.Set.{Mem, count, rowsOf, list, lay}
-use Rattle.encoding.specs.Refusals.{fault, joined, manyRows, setTests, outTests, stateTests, numberTests, tooLarge, doneOr, leftOr}
+use Rattle.encoding.specs.Words.{layRows}
+use Rattle.encoding.specs.Set.{Mem, count, rowsOf, list, lay, stateOf, layState}
+use Rattle.encoding.specs.Refusals.{fault, joined, manyRows, setTests, outTests, differentRows, stateTests, tooLarge, readTests, rowTests, rowsTests, doneOr, leftOr}
 use Rattle.encoding.specs.declared.Answer.{Answer}
 use Rattle.cmpnt_list.specs.declared.Got.{Got}
 use Rattle.cmpnt_list.specs.declared.Got.the-variants as got
@@ -45,14 +45,14 @@ truthOr (suc k) b = truth.Refused (suc k)
 -- ---- calls that read one set: the set is tested whole, then the numbers
 
 abbrev pub readFault : ℕ → Mem → Bool → ℕ
-readFault n M large = fault (joined (setTests n M) (numberTests large))
+readFault n M large = fault (readTests n M large)
 
 -- one row, two rows, a qubit of a row
 abbrev pub rowFault : ℕ → Mem → ℕ → ℕ
-rowFault n M r = readFault n M (tooLarge (count M) r)
+rowFault n M r = fault (rowTests n M r)
 
 abbrev pub rowsFault : ℕ → Mem → ℕ → ℕ → ℕ
-rowsFault n M a b = readFault n M (tooLarge (count M) a || tooLarge (count M) b)
+rowsFault n M a b = fault (rowsTests n M a b)
 
 abbrev pub qubitFault : ℕ → Mem → ℕ → ℕ → ℕ
 qubitFault n M r q = readFault n M (tooLarge (count M) r || tooLarge n q)
@@ -106,10 +106,6 @@ pub record CompatibilityMatrix (n : ℕ) (M : Mem) (out out′ : List ℕ) (a : 
 
 -- ---- cmpnts_mul_pairwise: row i of the third set is left i times right i, its phase byte phase(left i, right i)
 
--- 3: sets of different m
-abbrev pub differentRows : ℕ → ℕ → List Bool
-differentRows m m′ = false ∷ false ∷ not (eqb m′ m) ∷ []
-
 abbrev pub pairwiseFault : ℕ → Mem → Mem → Mem → ℕ
 pairwiseFault n L R O = fault (joined (joined (setTests n L) (setTests n R)) (joined (differentRows (count L) (count R)) (outTests n (count L) O)))
 
@@ -124,14 +120,7 @@ pub record MulPairwise (n : ℕ) (L R O O′ : Mem) (a : Answer) : Type 0 where
 
 -- the state's length (3) and its bits at n and above (4) are tested with the set and the row number
 abbrev pub actionFault : ℕ → Mem → ℕ → List ℕ → ℕ
-actionFault n M r st = fault (joined (joined (setTests n M) (numberTests (tooLarge (count M) r))) (stateTests n st))
-
--- the state of n qubits that lies in words, and one laid in words
-abbrev pub stateOf : ℕ → List ℕ → List Bool
-stateOf n st = take n (unbits st)
-
-abbrev pub layState : ℕ → List Bool → List ℕ
-layState n s = pack (λ (b : Bool). b) (wordsOf n) s
+actionFault n M r st = fault (joined (rowTests n M r) (stateTests n st))
 
 pub record ImulState (n : ℕ) (M : Mem) (r : ℕ) (st st′ : List ℕ) (a : Phase) : Type 0 where
   pub answer : a ≡ phaseOr (actionFault n M r st) (actPhaseOn n (rowsOf n M r) (stateOf n st))

@@ -10,31 +10,24 @@ use Rattle.pauli.specs.Pauli.{Pauli}
 use Rattle.pauli.specs.declared.PauliMatrix.the-variants.{I, X, Y, Z}
 use Rattle.pauli.specs.Row.{Row}
 use Rattle.pauli.specs.Rows.{holding, actOn, actPhaseOn}
-use Rattle.encoding.specs.Limits.{maxQubits, maxRows, wordsOf}
+use Rattle.encoding.specs.Limits.{wordsOf}
 use Rattle.encoding.specs.Words.{bitAt}
-use Rattle.encoding.specs.Set.{Mem, count, Valid}
-use Rattle.cmpnt_list.specs.Calls.{stateOf, layState}
-
--- no test of the set holds
-pub record Ready (n : ℕ) (M : Mem) : Type 0 where
-  pub valid : Valid n (wordsOf n) M
-  pub few-qubits : n ≤ maxQubits
-  pub few-rows : count M ≤ maxRows
+use Rattle.encoding.specs.Set.{Mem, count, Sound, stateOf, layState}
 
 -- no test of the set holds, and no number is too large
 pub record Asked (n : ℕ) (M : Mem) (large : Bool) : Type 0 where
-  pub ready : Ready n M
+  pub ready : Sound n M
   pub small : large ≡ false
 
 -- the same of a set whose matrix is lent in size words
 pub record AskedMatrix (n : ℕ) (M : Mem) (size : ℕ) : Type 0 where
-  pub ready : Ready n M
+  pub ready : Sound n M
   pub fits : size ≡ count M * wordsOf (count M)
 
 -- the same of the three sets of a pairwise product: a left one of m rows, a right one of k
 pub record BothReady (n : ℕ) (L R : Mem) : Type 0 where
-  pub left : Ready n L
-  pub right : Ready n R
+  pub left : Sound n L
+  pub right : Sound n R
 
 pub record ThirdReady (n m k : ℕ) (O : Mem) : Type 0 where
   pub same : k ≡ m

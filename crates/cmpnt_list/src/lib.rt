@@ -7,11 +7,11 @@ ghost use Rattle.pauli.specs.declared.PauliMatrix.the-variants.{I};
 ghost use Rattle.pauli.specs.Rows.{phaseOf, commute, central, countOf, withQubit};
 ghost use Rattle.encoding.specs.Limits.{maxQubits, maxRows, maxWords, wordsOf};
 ghost use Rattle.encoding.specs.Words.{word, unpack};
-ghost use Rattle.encoding.specs.Set.{mem, rowsOf, lay};
-ghost use Rattle.encoding.specs.Refusals.{fault, joined, setTests, outTests, stateTests};
+ghost use Rattle.encoding.specs.Set.{mem, rowsOf, lay, Sound};
+ghost use Rattle.encoding.specs.Refusals.{fault, joined, setTests, outTests, stateTests, differentRows};
 ghost use Rattle.products.specs.Leaves.{SameLength, ProductAt};
-ghost use Rattle.cmpnt_list.specs.Calls.{readFault, matrixTests, matrixFault, differentRows, laidMatrix, commuting, pairs, getQubit, SetQubit, countIn, phaseOfMul, commutesWith, belongsToCentralizer, CompatibilityMatrix, MulPairwise, ImulState};
-ghost use Rattle.cmpnt_list.specs.Workers.{Ready, Asked, AskedMatrix, BothReady, ThirdReady, RowAt, masked, fromMasks, Filled, Marked, Zeros, StateActed};
+ghost use Rattle.cmpnt_list.specs.Calls.{readFault, matrixTests, matrixFault, laidMatrix, commuting, pairs, getQubit, SetQubit, countIn, phaseOfMul, commutesWith, belongsToCentralizer, CompatibilityMatrix, MulPairwise, ImulState};
+ghost use Rattle.cmpnt_list.specs.Workers.{Asked, AskedMatrix, BothReady, ThirdReady, RowAt, masked, fromMasks, Filled, Marked, Zeros, StateActed};
 use encoding::Answer;
 use pauli::ComplexSign;
 use pauli::PauliMatrix;
@@ -68,7 +68,7 @@ fn row_span(r: usize, n: usize, m: usize) -> Span
 
 // The Pauli at qubit q of row r.
 fn read_qubit(n: usize, x: &[u64], z: &[u64], phases: &[u8], r: usize, q: usize) -> PauliMatrix
-    requires { ⌜ Ready n (mem (now x) (now z) (now phases)) ⌝ }
+    requires { ⌜ Sound n (mem (now x) (now z) (now phases)) ⌝ }
     requires { ⌜ (r < length (now phases)) × (q < n) ⌝ }
     ensures { λ p. ⌜ p ≡ getD (rowsOf n (mem (now (x .entry)) (now (z .entry)) (now (phases .entry))) r .ps) q I ⌝ }
 {
@@ -108,7 +108,7 @@ fn write_qubit(
     q: usize,
     pauli: PauliMatrix,
 )
-    requires { ⌜ Ready n (mem (now x) (now z) (now phases)) ⌝ }
+    requires { ⌜ Sound n (mem (now x) (now z) (now phases)) ⌝ }
     requires { ⌜ (r < length (now phases)) × (q < n) ⌝ }
     ensures { λ _. ⌜ mem (now (x .exit)) (now (z .exit)) (now (phases .entry)) ≡ lay n (length (now (phases .entry))) (withQubit (rowsOf n (mem (now (x .entry)) (now (z .entry)) (now (phases .entry)))) r q pauli) ⌝ }
 {
@@ -140,22 +140,15 @@ pub fn set_qubit(
     Answer::Done
 }
 
-// How many bits of x are set.
-fn ones_in(x: u64) -> u64
-    ensures { λ r. ⌜ (r ≡ ones x) × (r ≤ 64) ⌝ }
-{
-    u64::count_ones(x) as u64
-}
-
 // The number of qubits of a word that hold the Pauli; of I, the number of the others.
 fn count_word(x: u64, z: u64, p: PauliMatrix) -> u64
     ensures { λ r. ⌜ (r ≡ masked p (word 64 x z)) × (r ≤ 64) ⌝ }
 {
     match p {
-        PauliMatrix::I => ones_in(x | z),
-        PauliMatrix::X => ones_in(x & !z),
-        PauliMatrix::Y => ones_in(x & z),
-        PauliMatrix::Z => ones_in(!x & z),
+        PauliMatrix::I => products::count(x | z),
+        PauliMatrix::X => products::count(x & !z),
+        PauliMatrix::Y => products::count(x & z),
+        PauliMatrix::Z => products::count(!x & z),
     }
 }
 
@@ -189,7 +182,7 @@ fn from_masks(p: PauliMatrix, n: usize, k: u64) -> u64
 
 // The number of qubits of row r that hold the Pauli.
 fn count_in(n: usize, x: &[u64], z: &[u64], phases: &[u8], r: usize, pauli: PauliMatrix) -> u64
-    requires { ⌜ Ready n (mem (now x) (now z) (now phases)) ⌝ }
+    requires { ⌜ Sound n (mem (now x) (now z) (now phases)) ⌝ }
     requires { ⌜ r < length (now phases) ⌝ }
     ensures { λ k. ⌜ k ≡ countOf n pauli (rowsOf n (mem (now (x .entry)) (now (z .entry)) (now (phases .entry))) r) ⌝ }
 {
@@ -220,7 +213,7 @@ pub fn count(
 
 // The exponent of the product of rows a and b.
 fn phase_rows(n: usize, x: &[u64], z: &[u64], phases: &[u8], a: usize, b: usize) -> ComplexSign
-    requires { ⌜ Ready n (mem (now x) (now z) (now phases)) ⌝ }
+    requires { ⌜ Sound n (mem (now x) (now z) (now phases)) ⌝ }
     requires { ⌜ (a < length (now phases)) × (b < length (now phases)) ⌝ }
     ensures { λ r. ⌜ r .0 ≡ phaseOf n (rowsOf n (mem (now (x .entry)) (now (z .entry)) (now (phases .entry))) a) (rowsOf n (mem (now (x .entry)) (now (z .entry)) (now (phases .entry))) b) ⌝ }
 {
@@ -255,7 +248,7 @@ pub fn phase_of_mul(
 
 // Whether rows a and b commute.
 fn commute_rows(n: usize, x: &[u64], z: &[u64], phases: &[u8], a: usize, b: usize) -> bool
-    requires { ⌜ Ready n (mem (now x) (now z) (now phases)) ⌝ }
+    requires { ⌜ Sound n (mem (now x) (now z) (now phases)) ⌝ }
     requires { ⌜ (a < length (now phases)) × (b < length (now phases)) ⌝ }
     ensures { λ r. ⌜ r ≡ commute n (rowsOf n (mem (now (x .entry)) (now (z .entry)) (now (phases .entry))) a) (rowsOf n (mem (now (x .entry)) (now (z .entry)) (now (phases .entry))) b) ⌝ }
 {
@@ -290,7 +283,7 @@ pub fn commutes_with(
 
 // Whether row r commutes with every row.
 fn central_row(n: usize, x: &[u64], z: &[u64], phases: &[u8], r: usize) -> bool
-    requires { ⌜ Ready n (mem (now x) (now z) (now phases)) ⌝ }
+    requires { ⌜ Sound n (mem (now x) (now z) (now phases)) ⌝ }
     requires { ⌜ r < length (now phases) ⌝ }
     ensures { λ b. ⌜ b ≡ central n (length (now (phases .entry))) (rowsOf n (mem (now (x .entry)) (now (z .entry)) (now (phases .entry)))) r ⌝ }
 {
@@ -375,7 +368,7 @@ fn mark(m: usize, i: usize, j: usize, out: &mut [u64])
 
 // The pair of rows i and j is looked at, and both bits are written.
 fn mark_pair(n: usize, x: &[u64], z: &[u64], phases: &[u8], i: usize, j: usize, out: &mut [u64])
-    requires { ⌜ Ready n (mem (now x) (now z) (now phases)) ⌝ }
+    requires { ⌜ Sound n (mem (now x) (now z) (now phases)) ⌝ }
     requires { ⌜ (i < length (now phases)) × (j ≤ i) ⌝ }
     requires { ⌜ Filled (commuting n (mem (now x) (now z) (now phases))) (length (now phases)) i j (now out) ⌝ }
     ensures { λ _. ⌜ Filled (commuting n (mem (now (x .entry)) (now (z .entry)) (now (phases .entry)))) (length (now (phases .entry))) i (j + 1) (now (out .exit)) ⌝ }
@@ -389,7 +382,7 @@ fn mark_pair(n: usize, x: &[u64], z: &[u64], phases: &[u8], i: usize, j: usize, 
 
 // Row i is paired with the rows up to it.
 fn mark_line(n: usize, x: &[u64], z: &[u64], phases: &[u8], i: usize, out: &mut [u64])
-    requires { ⌜ Ready n (mem (now x) (now z) (now phases)) ⌝ }
+    requires { ⌜ Sound n (mem (now x) (now z) (now phases)) ⌝ }
     requires { ⌜ i < length (now phases) ⌝ }
     requires { ⌜ Filled (commuting n (mem (now x) (now z) (now phases))) (length (now phases)) i 0 (now out) ⌝ }
     ensures { λ _. ⌜ Filled (commuting n (mem (now (x .entry)) (now (z .entry)) (now (phases .entry)))) (length (now (phases .entry))) (i + 1) 0 (now (out .exit)) ⌝ }
@@ -403,7 +396,7 @@ fn mark_line(n: usize, x: &[u64], z: &[u64], phases: &[u8], i: usize, out: &mut 
 
 // The matrix of a set's rows.
 fn fill_matrix(n: usize, x: &[u64], z: &[u64], phases: &[u8], out: &mut [u64])
-    requires { ⌜ Ready n (mem (now x) (now z) (now phases)) ⌝ }
+    requires { ⌜ Sound n (mem (now x) (now z) (now phases)) ⌝ }
     requires { ⌜ length (now out) ≡ length (now phases) * wordsOf (length (now phases)) ⌝ }
     ensures { λ _. ⌜ now (out .exit) ≡ laidMatrix (length (now (phases .entry))) (commuting n (mem (now (x .entry)) (now (z .entry)) (now (phases .entry)))) ⌝ }
 {
@@ -538,7 +531,7 @@ pub fn cmpnts_mul_pairwise(
 
 // Row r acts on a basis state.
 fn act_on(n: usize, x: &[u64], z: &[u64], phases: &[u8], r: usize, state: &mut [u64]) -> ComplexSign
-    requires { ⌜ Ready n (mem (now x) (now z) (now phases)) ⌝ }
+    requires { ⌜ Sound n (mem (now x) (now z) (now phases)) ⌝ }
     requires { ⌜ (r < length (now phases)) × (fault (stateTests n (now state)) ≡ 0) ⌝ }
     ensures { λ e. ⌜ StateActed n (rowsOf n (mem (now (x .entry)) (now (z .entry)) (now (phases .entry))) r) (now (state .entry)) (now (state .exit)) (e .0) ⌝ }
 {

@@ -1,22 +1,21 @@
--- Words are given by their bits; what Paulis lie in them. Assumes nothing.
-use mathlib.Core.Path.{_≡_, refl, sym, ap, ap₂, _∙_, subst}
-use mathlib.Core.Bool.{Bool, true, false, not, _||_, _&&_}
+-- Words are given by their bits; the bits of what was packed; what Paulis lie in words. Assumes nothing.
+use mathlib.Core.Path.{_≡_, refl, sym, ap, ap₂, _∙_}
+use mathlib.Core.Bool.{Bool, false}
 use mathlib.Core.List.{List, [], _∷_, _++_}
-use Prim.Native.Nat.{ℕ, zero, suc, _+_, _-_, _*_, _/_, _%_, _^_, _≤_, _<_, zero-le, suc-le-suc}
-use native.Mathlib.Nat.{pow-suc, div-one, not-suc-le-zero, le-of-suc-le-suc, suc-inj, add-assoc, suc-mul, zero-lt-suc}
+use Prim.Native.Nat.{ℕ, zero, suc, _+_, _-_, _*_, _/_, _^_, _<_, suc-le-suc}
+use native.Mathlib.Nat.{div-one, zero-div, not-suc-le-zero, le-of-suc-le-suc, suc-mul, zero-lt-suc}
 use native.Mathlib.Numerals.{one-add}
 use native.Mathlib.Omega.{arith}
 use lib.Arith.{lt-one}
-use lib.Pow.{shr-shr, pow-pos}
-use lib.ListN.{length, getD, take, drop, length-take, length-drop, take-append-drop, List·getD-append}
+use lib.Pow.{shr-shr}
+use lib.ListN.{length, getD, take, drop, length-drop, take-append-drop, List·getD-append}
 use lib.Seq.{take-nil, getD-append-add, getD-take, getD-drop, length-take-le}
-use mir.Syntax.{w64}
-use mir.Val.{Fits}
-use Rattle.pauli.specs.Pauli.{Pauli, ofBits}
+use Rattle.pauli.specs.Pauli.{ofBits}
 use Rattle.pauli.specs.declared.PauliMatrix.the-variants.{I}
 use Rattle.encoding.specs.Words.{odd, bit, bitAt, word, unpack, join, pack, layRows}
-use Rattle.encoding.proofs.WordLaws.{Fit, back, half-lt, length-word, word-at}
-use Rattle.encoding.proofs.Parts.{fit-take}
+use Rattle.encoding.specs.Set.{list}
+use Rattle.encoding.proofs.WordLaws.{Fit, back, half-lt, length-word, word-at, join-odd, join-half}
+use Rattle.encoding.proofs.Parts.{fit-take, getD-part, row-lay-list}
 
 -- one half of a word, bit by bit
 pub half-bit : (x k : ℕ) → odd (x / 2 / 2 ^ k) ≡ odd (x / 2 ^ suc k)
@@ -63,6 +62,37 @@ module _ {A : Type 0} (f : A → Bool) (d : A) (f0 : f d ≡ false) where
       ∙ ap (λ (n : ℕ). pack f n ps) lt)
       (lay-of w rs (drop w xs) (length-drop w xs ∙ omega (arith, suc-mul (length rs) w)) (λ k. rw (getD-drop w xs k 0) (h (w + k)))
       (λ r j k g i l. ap (λ (n : ℕ). odd (n / 2 ^ k)) (getD-drop w xs (r * w + j) 0 ∙ ap (λ (n : ℕ). getD xs n 0) (omega (arith, suc-mul r w))) ∙ b (suc r) j k (suc-le-suc g) i l))
+
+-- ---- bit k of word j of what was packed is that of element 64 j + k
+
+module _ {A : Type 0} (f : A → Bool) (d : A) (f0 : f d ≡ false) where
+  bit-none : (k : ℕ) → odd (join f [] / 2 ^ k) ≡ false
+  unfolding join
+  bit-none k = ap odd (zero-div (2 ^ k))
+
+  bit-join : (ps : List A) (k : ℕ) → odd (join f ps / 2 ^ k) ≡ f (getD ps k d)
+  bit-join [] k = bit-none k ∙ sym f0
+  bit-join (p ∷ ps) zero = ap odd (div-one (join f (p ∷ ps))) ∙ join-odd f p ps
+  bit-join (p ∷ ps) (suc k) = sym (half-bit (join f (p ∷ ps)) k) ∙ ap (λ (x : ℕ). odd (x / 2 ^ k)) (join-half f p ps) ∙ bit-join ps k
+
+  pub bit-pack : (w : ℕ) (ps : List A) (j k : ℕ) → j < w → k < 64 → bitAt (pack f w ps) j k ≡ f (getD ps (j * 64 + k) d)
+  unfolding pack bitAt
+  bit-pack zero ps j k h l = absurd (not-suc-le-zero h)
+  bit-pack (suc w) ps zero k h l =
+      let e : k ≡ 0 * 64 + k = omega arith in
+      bit-join (take 64 ps) k ∙ ap f (getD-take 64 ps k d l ∙ ap (λ (i : ℕ). getD ps i d) e)
+  bit-pack (suc w) ps (suc j) k h l =
+      let e : 64 + (j * 64 + k) ≡ suc j * 64 + k = omega (arith, suc-mul j 64) in
+      bit-pack w (drop 64 ps) j k (le-of-suc-le-suc h) l ∙ ap f (getD-drop 64 ps (j * 64 + k) d ∙ ap (λ (i : ℕ). getD ps i d) e)
+
+  -- of lists that were laid one after the other
+  pub bit-lay : (w m : ℕ) (rows : ℕ → List A) (r j k : ℕ) → r < m → j < w → k < 64
+      → bitAt (layRows f w (list m rows)) (r * w + j) k ≡ f (getD (rows r) (j * 64 + k) d)
+  unfolding bitAt
+  bit-lay w m rows r j k h i l =
+      let xs = layRows f w (list m rows) in
+      ap (λ (x : ℕ). odd (x / 2 ^ k)) (sym (getD-part (r * w) w xs j i) ∙ ap (λ (u : List ℕ). getD u j 0) (row-lay-list f w m rows r h))
+      ∙ bit-pack w (rows r) j k i l
 
 -- qubit 64 j + k of a run of words is bit k of word j
 pub unpack-at : (xs zs : List ℕ) (j k : ℕ) → j < length xs → j < length zs → k < 64

@@ -1,18 +1,18 @@
 -- The table of refusals: when no number fits, when a number does, and the smaller of two numbers. Assumes nothing.
-use mathlib.Core.Path.{_≡_, refl, sym, ap, ap₂, _∙_, subst}
-use mathlib.Core.Bool.{Bool, true, false, cond, not, _||_}
+use mathlib.Core.Path.{_≡_, refl, sym, ap, ap₂, _∙_}
+use mathlib.Core.Bool.{Bool, true, false, cond, not}
 use mathlib.Core.Logic.{_↔_, _⊎_, inl, inr, ⊎-elim}
-use mathlib.Core.List.{List, [], _∷_}
+use mathlib.Core.List.{List, [], _∷_, _++_}
 use Prim.Native.Nat.{ℕ, zero, suc, _+_, _*_, _≤_, _<_}
-use native.Mathlib.Nat.{suc-ne-zero, not-suc-le-zero, le-of-suc-le-suc, suc-inj}
+use native.Mathlib.Nat.{suc-ne-zero, not-suc-le-zero, le-of-suc-le-suc, add-zero, add-suc, suc-add}
 use native.Mathlib.Decide.{ℕ-discrete}
 use native.Mathlib.Omega.{arith}
-use borrow.Author.Tests.{lt-ltb, le-ltb, ltb-false, eqb-true, not-false}
+use borrow.Author.Tests.{lt-ltb, le-ltb, eqb-true, not-false}
 use lib.Arith.{lt-of-le-ne}
-use lib.Dec.{ltb, leb, eqb}
-use lib.ListN.{length, getD, drop}
+use lib.Dec.{ltb, eqb}
+use lib.ListN.{length, getD}
 use Rattle.encoding.specs.Words.{bit}
-use Rattle.encoding.specs.Refusals.{faultFrom, fault, joined, least, badLengths, doneOr, leftOr}
+use Rattle.encoding.specs.Refusals.{faultFrom, fault, joined, least, badLengths, differentRows, numberTests, doneOr, leftOr}
 use Rattle.encoding.specs.declared.Answer.the-variants.{Refused}
 use Rattle.encoding.proofs.Scan.{none-of}
 
@@ -155,7 +155,60 @@ least-none (suc a) (suc b) e = absurd (go (ltb (suc a) (suc b)) e)
     go true e = suc-ne-zero a e
     go false e = suc-ne-zero b e
 
+pub both-parts : {f a b : ℕ} (ts us : List Bool) → a ≡ fault ts → b ≡ fault us → f ≡ least a b → f ≡ fault (joined ts us)
+both-parts ts us ea eb ef = ef ∙ ap₂ least ea eb ∙ joined-fault ts us
+
+-- ---- tests one after the other: the number of the first part where it is not 0, else that of the second
+
+abbrev pub orElse : ℕ → ℕ → ℕ
+orElse zero b = b
+orElse (suc a) b = suc a
+
+pub or-none : (a b : ℕ) → orElse a b ≡ 0 → (a ≡ 0) × (b ≡ 0)
+or-none zero b e = (refl, e)
+or-none (suc a) b e = absurd (suc-ne-zero a e)
+
+pub or-first : (a b : ℕ) → (a ≡ 0 → ⊥) → orElse a b ≡ a
+or-first zero b h = absurd (h refl)
+or-first (suc a) b h = refl
+
+pub fault-append : (k : ℕ) (l m : List Bool) → faultFrom (suc k) (l ++ m) ≡ orElse (faultFrom (suc k) l) (faultFrom (suc k + length l) m)
+unfolding faultFrom
+fault-append k [] m = ap (λ (j : ℕ). faultFrom j m) (sym (add-zero (suc k)))
+fault-append k (true ∷ l) m = refl
+fault-append k (false ∷ l) m =
+    fault-append (suc k) l m ∙ ap (λ (j : ℕ). orElse (faultFrom (suc (suc k)) l) (faultFrom j m)) (suc-add (suc k) (length l) ∙ sym (add-suc (suc k) (length l)))
+
+-- ---- one test, with its number
+
+pub not-large : (k : ℕ) (large : Bool) → cond large (suc k) 0 ≡ 0 → large ≡ false
+not-large k true e = absurd (suc-ne-zero k e)
+not-large k false e = refl
+
+pub number-is : (large : Bool) → cond large 6 0 ≡ fault (numberTests large)
+unfolding faultFrom
+number-is large = refl
+
+pub different-is : (m k : ℕ) → cond (not (eqb k m)) 3 0 ≡ fault (differentRows m k)
+unfolding faultFrom
+different-is m k = refl
+
+pub same-rows : (m k : ℕ) → fault (differentRows m k) ≡ 0 → k ≡ m
+unfolding faultFrom
+same-rows m k e = eqb-true k m (not-false _ (not-large 2 (not (eqb k m)) e))
+
 -- ---- what a refusal comes to
+
+-- an answer by its number: where it is not 0 the refusal, where it is 0 what stands there
+pub refusing : {A : Type 0} (refuse by : ℕ → A) → ((k : ℕ) → refuse (suc k) ≡ by (suc k)) → {f g : ℕ} → f ≡ g → (f ≡ 0 → ⊥) → refuse f ≡ by g
+refusing {A} refuse by step {f} {g} e ne = go f ne ∙ ap by e
+  where
+    go : (k : ℕ) → (k ≡ 0 → ⊥) → refuse k ≡ by k
+    go zero h = absurd (h refl)
+    go (suc k) h = step k
+
+pub passing : {A : Type 0} (by : ℕ → A) {f g : ℕ} → f ≡ g → f ≡ 0 → by 0 ≡ by g
+passing by e z = ap by (sym z ∙ e)
 
 pub refused : (k : ℕ) → (k ≡ 0 → ⊥) → Refused k ≡ doneOr k
 refused zero h = absurd (h refl)

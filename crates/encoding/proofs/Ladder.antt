@@ -1,19 +1,19 @@
 -- The table of a row set as the code climbs it, each test after those before it. Assumes nothing.
-use mathlib.Core.Path.{_≡_, refl, sym, ap, ap₂, _∙_, subst}
+use mathlib.Core.Path.{_≡_, sym, ap, ap₂, _∙_}
 use mathlib.Core.Bool.{Bool, true, false, cond, _||_, not}
-use mathlib.Core.List.{List, [], _∷_}
-use Prim.Native.Nat.{ℕ, suc, _-_, _*_, _%_, _≤_, _<_}
+use mathlib.Core.List.{List}
+use Prim.Native.Nat.{ℕ, suc, _-_, _%_, _≤_, _<_}
 use native.Mathlib.Nat.{suc-ne-zero}
-use native.Mathlib.Omega.{arith}
 use borrow.Author.Tests.{lt-ltb, le-ltb, eq-eqb, ne-eqb}
-use lib.Dec.{ltb, eqb}
+use lib.Dec.{eqb}
 use lib.ListN.{length, getD, drop}
 use Rattle.encoding.specs.Limits.{maxQubits, maxRows, wordsOf}
 use Rattle.encoding.specs.Words.{word, unbits}
 use Rattle.encoding.specs.Set.{Mem, count, Valid}
 use Rattle.encoding.specs.Refusals.{faultFrom, fault, some, isOn, badLengths, badBits, badPhases, setTests, outTests, stateTests}
 use Rattle.encoding.proofs.WordLaws.{Fit}
-use Rattle.encoding.proofs.Spare.{spare-none, spare-last, state-spare}
+use Rattle.encoding.proofs.Spare.{spare-none, spare-last}
+use Rattle.encoding.proofs.States.{state-spare}
 use Rattle.encoding.proofs.Memory.{valid-of}
 
 -- a number other than 0 says nothing of the set

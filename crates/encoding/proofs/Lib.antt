@@ -1,13 +1,16 @@
 pub mod Odd
+pub mod Scan
 pub mod WordLaws
 pub mod Padding
 pub mod Reading
 pub mod Parts
 pub mod BitLaws
 pub mod OneBit
-pub mod Scan
 pub mod Spare
 pub mod Faults
+pub mod States
 pub mod Memory
+pub mod Sets
+pub mod RowWords
 pub mod Ladder
 pub mod Qubits

@@ -1,9 +1,9 @@
 -- A row set in memory. What refusals 1 to 5 leave is a row set; laying back what was read gives the same words and bytes; reading what was laid gives the
 -- rows. Assumes nothing.
 use mathlib.Core.Path.{_≡_, refl, sym, ap, ap₂, _∙_, subst}
-use mathlib.Core.Bool.{Bool, true, false}
-use mathlib.Core.List.{List, [], _∷_}
-use Prim.Native.Nat.{ℕ, zero, suc, _+_, _-_, _*_, _≤_, _<_}
+use mathlib.Core.Bool.{Bool, false}
+use mathlib.Core.List.{List, []}
+use Prim.Native.Nat.{ℕ, _+_, _-_, _*_, _≤_, _<_}
 use native.Mathlib.Decide.{decLt}
 use native.Mathlib.Omega.{arith}
 use borrow.Author.Tests.{ltb-false}
@@ -16,14 +16,14 @@ use Rattle.pauli.specs.Row.{Row}
 use Rattle.pauli.proofs.RowLaws.{row-eq}
 use Rattle.encoding.specs.Limits.{maxQubits, maxRows, wordsOf}
 use Rattle.encoding.specs.Words.{unpack, qubits, pack, layRows}
-use Rattle.encoding.specs.Set.{row, Mem, mem, count, rowsIn, list, layIn, Packed, Valid}
-use Rattle.encoding.specs.Refusals.{faultFrom, fault, some, someBelow, isOn, manyQubits, manyRows, badLengths, badBits, badPhases, setTests}
+use Rattle.encoding.specs.Set.{row, Mem, count, rowsIn, list, layIn, Packed, Valid}
+use Rattle.encoding.specs.Refusals.{fault, some, isOn, manyQubits, manyRows, badLengths, badBits, badPhases, setTests}
 use Rattle.encoding.proofs.WordLaws.{Fit, pack-x, pack-z}
-use Rattle.encoding.proofs.Padding.{Clean, pack-same, cut}
+use Rattle.encoding.proofs.Padding.{Clean, pack-cut}
 use Rattle.encoding.proofs.Reading.{length-qubits, length-unpack, length-pack, qubits-pack, unpack-same}
 use Rattle.encoding.proofs.Parts.{row-long, fit-part, rows-ext, length-list, getD-list, row-lay-list, length-lay-list}
-use Rattle.encoding.proofs.Scan.{some-none}
-use Rattle.encoding.proofs.Spare.{any-none, off-all}
+use Rattle.encoding.proofs.Scan.{some-none, any-none}
+use Rattle.encoding.proofs.Spare.{off-all}
 use Rattle.encoding.proofs.Faults.{pass, lengths-fit}
 
 -- ---- a row is packed when its words fit and its bits at n and above are zero
@@ -32,7 +32,7 @@ pub packed-of : (n w : ℕ) {xs zs : List ℕ} → length xs ≡ w → length zs
 packed-of n w {xs} {zs} hx hz fx fz c =
     let u = unpack xs zs in
     let at : (f : Pauli → Bool) → f I ≡ false → pack f (length xs) u ≡ pack f w (take n u) =
-    λ f f0. ap (λ (k : ℕ). pack f k u) hx ∙ sym (pack-same f f0 w (take n u) u (cut n u c)) in
+    λ f f0. ap (λ (k : ℕ). pack f k u) hx ∙ sym (pack-cut f I f0 w n u c) in
     record {
       x-is = sym (pack-x xs zs (hz ∙ sym hx) fx) ∙ at hasX refl;
       z-is = sym (pack-z xs zs (hz ∙ sym hx) fz) ∙ at hasZ refl;

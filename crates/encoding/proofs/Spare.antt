@@ -1,76 +1,42 @@
 -- The bits at n and above: only the last word of a row has any. Assumes nothing.
 use mathlib.Core.Path.{_≡_, refl, sym, ap, ap₂, _∙_, subst}
-use mathlib.Core.Bool.{Bool, true, false, not, _||_, _&&_}
-use mathlib.Core.List.{List, [], _∷_, _++_, append-nil, map, map-append}
-use Prim.Native.Nat.{ℕ, zero, suc, _+_, _-_, _*_, _/_, _%_, _^_, _≤_, _<_, zero-le, suc-le-suc}
-use native.Mathlib.Nat.{pow-suc, div-one, not-suc-le-zero, le-of-suc-le-suc, suc-inj, suc-mul, zero-lt-suc, sub-zero, add-sub-cancel-left}
-use native.Mathlib.Numerals.{one-add, add-one}
-use native.Mathlib.Decide.{ℕ-discrete}
+use mathlib.Core.Bool.{Bool, true, false, not, _||_}
+use mathlib.Core.List.{List, [], _∷_, _++_, append-nil}
+use Prim.Native.Nat.{ℕ, zero, suc, _+_, _-_, _*_, _/_, _%_, _^_, _≤_, _<_, zero-le}
+use native.Mathlib.Nat.{div-one, not-suc-le-zero, le-of-suc-le-suc, suc-inj, suc-mul, sub-zero}
+use native.Mathlib.Numerals.{one-add}
 use native.Mathlib.Omega.{arith}
-use borrow.Author.Tests.{ne-eqb, eq-eqb}
+use borrow.Author.Tests.{ne-eqb}
 use lib.Arith.{lt-one, lt-of-le-ne}
-use lib.Bits.{bitOr, or-zero-l, or-shr}
+use lib.Bits.{bitOr, or-shr}
 use lib.Dec.{eqb}
 use lib.Pow.{shr-shr, shr-lt}
-use lib.ListN.{length, getD, take, drop, drop-of-length-le}
-use lib.Seq.{drop-append-add, drop-append-le}
-use Rattle.pauli.specs.Pauli.{Pauli, ofBits, hasX, hasZ}
+use lib.ListN.{length, getD, drop, drop-of-length-le}
+use lib.Seq.{drop-append-add}
+use Rattle.pauli.specs.Pauli.{Pauli}
 use Rattle.pauli.specs.declared.PauliMatrix.the-variants.{I, X, Y, Z}
 use Rattle.pauli.proofs.RowLaws.{hasX-of, hasZ-of}
-use Rattle.encoding.specs.Words.{odd, bit, word, bits, unpack, unbits}
-use Rattle.encoding.proofs.Padding.{AllI}
-use Rattle.encoding.proofs.Scan.{none-of}
+use Rattle.encoding.specs.Words.{odd, bit, word, unpack}
+use Rattle.encoding.proofs.Padding.{Only, only-of}
+use Rattle.encoding.proofs.Scan.{any-never}
 use Rattle.encoding.proofs.Odd.{or-odd, or-half}
-use Rattle.encoding.proofs.WordLaws.{back, half-lt, length-word, length-bits}
+use Rattle.encoding.proofs.WordLaws.{back, half-lt, length-word}
 use Rattle.encoding.proofs.Reading.{length-unpack}
 use Rattle.encoding.specs.Set.{row}
 use Rattle.encoding.proofs.Parts.{row-long, getD-part}
 use Rattle.encoding.specs.Limits.{wordsOf}
 use Rattle.encoding.specs.Refusals.{someBelow, some, isOn}
 
--- ---- some number below m
-
-module _ (f : ℕ → Bool) where
-  pub any-more : (r : ℕ) → someBelow r f ≡ false → f r ≡ false → someBelow (r + 1) f ≡ false
-  unfolding someBelow
-  any-more r e h = rw (add-one r, e, h)
-
-  or-true : (a b : Bool) → b ≡ true → (a || b) ≡ true
-  or-true true b e = refl
-  or-true false b e = e
-
-  or-left : (a b : Bool) → a ≡ true → (a || b) ≡ true
-  or-left true b e = refl
-  or-left false b e = absurd (omega (arith, ap bit e))
-
-  pub any-hit : (m r : ℕ) → r < m → f r ≡ true → someBelow m f ≡ true
-  unfolding someBelow
-  any-hit zero r h e = absurd (not-suc-le-zero h)
-  any-hit (suc m) r h e = go (ℕ-discrete r m) (λ ne. any-hit m r (lt-of-le-ne (le-of-suc-le-suc h) ne) e)
-    where
-      go : Dec (r ≡ m) → ((r ≡ m → ⊥) → someBelow m f ≡ true) → (someBelow m f || f m) ≡ true
-      go (yes q) ih = or-true (someBelow m f) (f m) (ap f (sym q) ∙ e)
-      go (no q) ih = or-left (someBelow m f) (f m) (ih q)
-
-  pub any-none : (m r : ℕ) → someBelow m f ≡ false → r < m → f r ≡ false
-  unfolding someBelow
-  any-none zero r e h = absurd (not-suc-le-zero h)
-  any-none (suc m) r e h = go (ℕ-discrete r m) (λ ne. any-none m r (none-of (someBelow m f) (f m) e .0) (lt-of-le-ne (le-of-suc-le-suc h) ne))
-    where
-      go : Dec (r ≡ m) → ((r ≡ m → ⊥) → f r ≡ false) → f r ≡ false
-      go (yes q) ih = ap f q ∙ none-of (someBelow m f) (f m) e .1
-      go (no q) ih = ih q
-
 -- ---- nothing but I
 
-pub off-all : (ps : List Pauli) → some isOn ps ≡ false → AllI ps
-unfolding some
-off-all [] e k = refl
-off-all (I ∷ ps) e zero = refl
-off-all (I ∷ ps) e (suc k) = off-all ps e k
-off-all (X ∷ ps) e k = absurd (omega (arith, ap bit e))
-off-all (Y ∷ ps) e k = absurd (omega (arith, ap bit e))
-off-all (Z ∷ ps) e k = absurd (omega (arith, ap bit e))
+on-any : (p : Pauli) → isOn p ≡ false → p ≡ I
+on-any I e = refl
+on-any X e = absurd (omega (arith, ap bit e))
+on-any Y e = absurd (omega (arith, ap bit e))
+on-any Z e = absurd (omega (arith, ap bit e))
+
+pub off-all : (ps : List Pauli) → some isOn ps ≡ false → Only I ps
+off-all = only-of isOn I on-any
 
 -- ---- one pair of words
 
@@ -141,11 +107,6 @@ module _ (n : ℕ) (xs zs : List ℕ) (hx : length xs ≡ wordsOf n) (hz : lengt
 
 -- ---- the rows of a set
 
-pub any-never : (f : ℕ → Bool) (m : ℕ) → ((r : ℕ) → r < m → f r ≡ false) → someBelow m f ≡ false
-unfolding someBelow
-any-never f zero h = refl
-any-never f (suc m) h = ap₂ _||_ (any-never f m (λ r l. h r (omega arith))) (h m (omega arith))
-
 abbrev pub high : ℕ → ℕ → List ℕ → List ℕ → ℕ → Bool
 high n w xs zs r = some isOn (drop n (unpack (row w r xs) (row w r zs)))
 
@@ -162,29 +123,3 @@ module _ (n m w : ℕ) (xs zs : List ℕ) (hw : w ≡ wordsOf n) (hx : length xs
       λ l. ap (λ (k : ℕ). getD l k 0) et ∙ sym (getD-part (r * w) w l (w - 1) i) ∙ ap (λ (k : ℕ). getD (row w r l) (k - 1) 0) hw in
       ap₂ (λ (x z : ℕ). some isOn (drop (n % 64) (word 64 x z))) (at xs) (at zs)
       ∙ sym (spare-last n (row w r xs) (row w r zs) (row-long m w r xs l hx ∙ hw) (row-long m w r zs l hz ∙ hw) ne)
-
--- ---- a basis state: its bits are those of a run of Ys
-
-some-map : {A : Type 0} (f : A → Bool) (n : ℕ) (l : List A) → some (λ (b : Bool). b) (drop n (map f l)) ≡ some f (drop n l)
-unfolding some
-some-map f zero [] = refl
-some-map f zero (a ∷ l) = ap (λ (b : Bool). f a || b) (some-map f zero l)
-some-map f (suc n) [] = refl
-some-map f (suc n) (a ∷ l) = some-map f n l
-
-on-both : (b : Bool) → isOn (ofBits b b) ≡ b
-on-both true = refl
-on-both false = refl
-
-bits-on : (d r : ℕ) → map isOn (word d r r) ≡ bits d r
-unfolding word bits
-bits-on zero r = refl
-bits-on (suc d) r = ap₂ (λ (b : Bool) (l : List Bool). b ∷ l) (on-both (odd r)) (bits-on d (r / 2))
-
-unbits-on : (st : List ℕ) → map isOn (unpack st st) ≡ unbits st
-unfolding unpack unbits
-unbits-on [] = refl
-unbits-on (r ∷ st) = map-append isOn (word 64 r r) (unpack st st) ∙ ap₂ (λ (u v : List Bool). u ++ v) (bits-on 64 r) (unbits-on st)
-
-pub state-spare : (n : ℕ) (st : List ℕ) → some (λ (b : Bool). b) (drop n (unbits st)) ≡ some isOn (drop n (unpack st st))
-state-spare n st = ap (λ (l : List Bool). some (λ (b : Bool). b) (drop n l)) (sym (unbits-on st)) ∙ some-map isOn n (unpack st st)

@@ -1,10 +1,10 @@
 -- Document 01, "Refusal numbers": the lines of the table as tests, in the table's order, and the first number that fits; 0 stands for none. The tests of
 -- row sets, states and numbers stand here; those of orders, lists, logs and terms beside the calls that take them. Assumes nothing.
-use mathlib.Core.Bool.{Bool, true, false, cond, not, _||_}
+use mathlib.Core.Bool.{Bool, false, cond, not, _||_}
 use mathlib.Core.List.{List, [], _∷_}
 use Prim.Native.Nat.{ℕ, zero, suc, _*_}
 use lib.Dec.{eqb, leb, ltb}
-use lib.ListN.{length, getD, drop}
+use lib.ListN.{length, drop}
 use Rattle.pauli.specs.Pauli.{Pauli, hasX, hasZ}
 use Rattle.encoding.specs.Limits.{maxQubits, maxRows, wordsOf}
 use Rattle.encoding.specs.Words.{unpack, unbits}
@@ -88,6 +88,10 @@ outTests n m M =
     ∷ (not (eqb (count M) m) || badLengths (count M) (wordsOf n) (length (M .xs)) (length (M .zs)))
     ∷ []
 
+-- 3: sets of different m
+abbrev pub differentRows : ℕ → ℕ → List Bool
+differentRows m m′ = false ∷ false ∷ not (eqb m′ m) ∷ []
+
 -- ---- states and numbers
 
 -- a lent basis state: w words (3), no bit set at n or above (4)
@@ -105,6 +109,17 @@ numberTests large = false ∷ false ∷ false ∷ false ∷ false ∷ large ∷ 
 
 abbrev pub tooLarge : ℕ → ℕ → Bool
 tooLarge limit k = leb limit k
+
+-- a set that is read and a number: 1 to 6
+abbrev pub readTests : ℕ → Mem → Bool → List Bool
+readTests n M large = joined (setTests n M) (numberTests large)
+
+-- the numbers of one and of two of its rows
+abbrev pub rowTests : ℕ → Mem → ℕ → List Bool
+rowTests n M r = readTests n M (tooLarge (count M) r)
+
+abbrev pub rowsTests : ℕ → Mem → ℕ → ℕ → List Bool
+rowsTests n M a b = readTests n M (tooLarge (count M) a || tooLarge (count M) b)
 
 -- ---- what a refusal comes to
 

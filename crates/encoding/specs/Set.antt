@@ -8,8 +8,8 @@ use lib.Dec.{ltb}
 use lib.ListN.{length, getD, take, drop, set}
 use Rattle.pauli.specs.Pauli.{Pauli, hasX, hasZ}
 use Rattle.pauli.specs.Row.{Row}
-use Rattle.encoding.specs.Limits.{wordsOf}
-use Rattle.encoding.specs.Words.{qubits, withBit, pack, layRows}
+use Rattle.encoding.specs.Limits.{maxQubits, maxRows, wordsOf}
+use Rattle.encoding.specs.Words.{unbits, qubits, withBit, pack, layRows}
 
 -- the words from a up to, not including, e
 abbrev pub part : ℕ → ℕ → List ℕ → List ℕ
@@ -51,6 +51,13 @@ layIn w m σ = mem (layRows hasX w (list m (λ k. σ k .ps))) (layRows hasZ w (l
 abbrev pub lay : ℕ → ℕ → (ℕ → Row) → Mem
 lay n m σ = layIn (wordsOf n) m σ
 
+-- a basis state of n qubits that lies in words, and one laid in words
+abbrev pub stateOf : ℕ → List ℕ → List Bool
+stateOf n st = take n (unbits st)
+
+abbrev pub layState : ℕ → List Bool → List ℕ
+layState n s = pack (λ (b : Bool). b) (wordsOf n) s
+
 -- qubit q of a row's two parts has become the Pauli p: its two bits are changed, where they lie within both parts
 abbrev pub within : ℕ → List ℕ → List ℕ → Bool
 within q xs zs = ltb (q / 64) (length xs) && ltb (q / 64) (length zs)
@@ -71,3 +78,9 @@ pub record Valid (n w : ℕ) (M : Mem) : Type 0 where
   pub z-long : length (M .zs) ≡ count M * w
   pub packed : (r : ℕ) → r < count M → Packed n w (row w r (M .xs)) (row w r (M .zs))
   pub small : (r : ℕ) → getD (M .es) r 0 < 4
+
+-- the same within the limits
+pub record Sound (n : ℕ) (M : Mem) : Type 0 where
+  pub valid : Valid n (wordsOf n) M
+  pub few-qubits : n ≤ maxQubits
+  pub few-rows : count M ≤ maxRows

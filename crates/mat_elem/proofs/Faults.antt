@@ -1,40 +1,20 @@
 -- The lines of the table: tested in two parts, and what it tells that none of them fits the terms. Assumes nothing.
 use mathlib.Core.Path.{_≡_, refl, sym, ap, ap₂, _∙_, subst₂}
-use mathlib.Core.Bool.{Bool, true, false, not, _||_}
-use mathlib.Core.List.{List, [], _∷_, _++_}
-use Prim.Native.Nat.{ℕ, zero, suc, _+_, _≤_}
-use native.Mathlib.Nat.{suc-ne-zero, add-zero, add-suc, suc-add}
+use mathlib.Core.Bool.{Bool, false, not, _||_}
+use mathlib.Core.List.{List, [], _∷_}
+use Prim.Native.Nat.{ℕ, zero, suc, _≤_}
+use native.Mathlib.Nat.{suc-ne-zero}
 use native.Mathlib.Omega.{arith}
 use borrow.Author.Tests.{ltb-false, eqb-true, not-false}
 use lib.Bits.{bitXor}
 use lib.Dec.{ltb, eqb}
 use lib.ListN.{length}
 use Rattle.encoding.specs.Refusals.{fault, faultFrom}
-use Rattle.encoding.proofs.Faults.{pass}
+use Rattle.encoding.proofs.Faults.{pass, orElse, or-none, or-first, fault-append}
 use Rattle.encoding.proofs.Scan.{none-of}
 use Rattle.mat_elem.specs.Terms.{minQubits, maxQubits, maxTerms, badCount, tooMany, badLengths, badBits, falls, termTests, blockFrom, blockTo, foundOr, foundOf, BlockOf, PartOf}
 use Rattle.mat_elem.specs.declared.Found.the-variants.{Block, Refused}
 use Rattle.mat_elem.proofs.Places.{block-of}
-
--- ---- the number of the first part where it is not 0, else that of the second
-abbrev pub orElse : ℕ → ℕ → ℕ
-orElse zero b = b
-orElse (suc a) b = suc a
-
-pub or-none : (a b : ℕ) → orElse a b ≡ 0 → (a ≡ 0) × (b ≡ 0)
-or-none zero b e = (refl, e)
-or-none (suc a) b e = absurd (suc-ne-zero a e)
-
-pub or-first : (a b : ℕ) → (a ≡ 0 → ⊥) → orElse a b ≡ a
-or-first zero b h = absurd (h refl)
-or-first (suc a) b h = refl
-
-pub fault-append : (k : ℕ) (l m : List Bool) → faultFrom (suc k) (l ++ m) ≡ orElse (faultFrom (suc k) l) (faultFrom (suc k + length l) m)
-unfolding faultFrom
-fault-append k [] m = ap (λ (j : ℕ). faultFrom j m) (sym (add-zero (suc k)))
-fault-append k (true ∷ l) m = refl
-fault-append k (false ∷ l) m =
-    fault-append (suc k) l m ∙ ap (λ (j : ℕ). orElse (faultFrom (suc (suc k)) l) (faultFrom j m)) (suc-add (suc k) (length l) ∙ sym (add-suc (suc k) (length l)))
 
 -- ---- the table in two parts: what the lengths tell, and what the words tell
 abbrev pub shapeTests : ℕ → ℕ → ℕ → ℕ → ℕ → List Bool

@@ -2,39 +2,20 @@
 -- a block; and the turn by 3. Assumes nothing.
 use mathlib.Core.Path.{_≡_, refl, sym, ap, ap₂, _∙_}
 use mathlib.Core.Logic.{_↔_}
-use mathlib.Core.Bool.{Bool, true, false, _||_, or-true, or-assoc, or-self}
-use mathlib.Core.List.{List, [], _∷_}
-use Prim.Native.Nat.{ℕ, zero, suc, _+_, _-_, _≤_, _<_, suc-le-suc}
+use mathlib.Core.Bool.{Bool, true, false}
+use mathlib.Core.List.{List}
+use Prim.Native.Nat.{ℕ, zero, suc, _+_, _-_, _≤_, _<_}
 use native.Mathlib.Decide.{decLe}
-use native.Mathlib.Nat.{le-refl, lt-of-lt-of-le, le-of-suc-le-suc, not-suc-le-zero, zero-add, suc-add, zero-lt-suc, le-trans, lt-of-not-le}
+use native.Mathlib.Nat.{le-refl, lt-of-lt-of-le, le-of-suc-le-suc, zero-add, suc-add, le-trans, lt-of-not-le}
 use native.Mathlib.Numerals.{add-one}
 use native.Mathlib.Omega.{arith}
 use borrow.Author.Tests.{eq-eqb, ne-eqb, eqb-false, le-leb, lt-leb}
 use lib.Dec.{eqb, leb}
 use lib.ListN.{length, getD}
-use Rattle.encoding.specs.Refusals.{some, someBelow}
-use Rattle.encoding.proofs.Scan.{some-none}
+use Rattle.encoding.specs.Refusals.{someBelow}
+use Rattle.encoding.proofs.Scan.{some-none, some-never, some-at, any-same, any-past}
 use Rattle.mat_elem.specs.Terms.{inBlock, hasBlock, BlockOf}
 use Rattle.mat_elem.specs.Sums.{turned, stepIf, sumOver}
-
--- ---- some number below m passes a test: the same test, and a test that goes on as it was
-pub each-of : (f g : ℕ → Bool) (m : ℕ) → ((k : ℕ) → k < m → f k ≡ g k) → someBelow m f ≡ someBelow m g
-unfolding someBelow
-each-of f g zero h = refl
-each-of f g (suc m) h = ap₂ _||_ (each-of f g m (λ k l. h k (omega arith))) (h m (omega arith))
-
-past : (f : ℕ → Bool) (a d : ℕ) → ((k : ℕ) → a ≤ k → k < suc (d + a) → f k ≡ f a) → someBelow (suc (d + a)) f ≡ someBelow (suc a) f
-unfolding someBelow
-past f a zero h = rw zero-add
-past f a (suc d) h =
-    rw suc-add
-    (ap₂ _||_ (past f a d (λ k l u. h k l (omega (arith, suc-add d a)))) (h (suc (d + a)) (omega arith) (omega (arith, suc-add d a)))
-    ∙ or-assoc (someBelow a f) (f a) (f a) ∙ ap (λ (b : Bool). someBelow a f || b) (or-self (f a)))
-
-some-past : (f : ℕ → Bool) (a m : ℕ) → a ≤ m → ((k : ℕ) → a ≤ k → k < suc m → f k ≡ f a) → someBelow (suc m) f ≡ someBelow (suc a) f
-some-past f a m l h =
-    let e : (m - a) + a ≡ m = omega arith in
-    ap (λ (k : ℕ). someBelow (suc k) f) (sym e) ∙ past f a (m - a) (λ k i u. h k i (omega arith))
 
 module _ {A : Type 0} (plus : A → A → A) (none : A) (term : ℕ → A) where
   -- d places more, none of them picked
@@ -88,25 +69,14 @@ module _ {A : Type 0} (plus : A → A → A) (none : A) (term : ℕ → A) where
     pub block-some : (p : A → Bool)
         → someBelow (suc (length xs)) (λ n. p (sumOver (inBlock xs t) plus none term n)) ≡ someBelow (suc last) (λ n. p (sumOver (λ i. leb first i) plus none term n))
     block-some p =
-        some-past (λ n. p (sumOver (inBlock xs t) plus none term n)) last (length xs) (b .within) (λ k i l. ap p (after k i (le-of-suc-le-suc l)))
-        ∙ each-of (λ n. p (sumOver (inBlock xs t) plus none term n)) (λ n. p (sumOver (λ i. leb first i) plus none term n)) (suc last) (λ k l. ap p (block-upto k (le-of-suc-le-suc l)))
+        any-past (λ n. p (sumOver (inBlock xs t) plus none term n)) last (length xs) (b .within) (λ k i l. ap p (after k i (le-of-suc-le-suc l)))
+        ∙ any-same (λ n. p (sumOver (inBlock xs t) plus none term n)) (λ n. p (sumOver (λ i. leb first i) plus none term n)) (suc last) (λ k l. ap p (block-upto k (le-of-suc-le-suc l)))
 
 -- ---- whether there is a block
 
-has : (xs : List ℕ) (t k : ℕ) → k < length xs → getD xs k 0 ≡ t → hasBlock xs t ≡ true
-unfolding some
-has [] t k h e = absurd (not-suc-le-zero h)
-has (x ∷ xs) t zero h e = rw (eq-eqb x t e)
-has (x ∷ xs) t (suc k) h e = rw (has xs t k (le-of-suc-le-suc h) e) (or-true (eqb x t))
-
-has-not : (xs : List ℕ) (t : ℕ) → ((k : ℕ) → k < length xs → getD xs k 0 ≡ t → ⊥) → hasBlock xs t ≡ false
-unfolding some
-has-not [] t h = refl
-has-not (x ∷ xs) t h = rw (ne-eqb x t (h 0 (zero-lt-suc _))) (has-not xs t (λ k l. h (suc k) (suc-le-suc l)))
-
 -- there is none exactly when no term has that X
 pub no-term : (xs : List ℕ) (t : ℕ) → (hasBlock xs t ≡ false) ↔ ((k : ℕ) → k < length xs → getD xs k 0 ≡ t → ⊥)
-no-term xs t = (λ e k h. eqb-false (getD xs k 0) t (some-none (λ w. eqb w t) 0 xs e k h), has-not xs t)
+no-term xs t = (λ e k h. eqb-false (getD xs k 0) t (some-none (λ w. eqb w t) 0 xs e k h), λ h. some-never (λ w. eqb w t) 0 xs (λ k l. ne-eqb (getD xs k 0) t (h k l)))
 
 -- where there is none the sum is what it starts from
 pub sum-empty : {A : Type 0} (plus : A → A → A) (none : A) (term : ℕ → A) (xs : List ℕ) (t : ℕ) → hasBlock xs t ≡ false
@@ -117,10 +87,10 @@ sum-empty plus none term xs t e =
 
 module _ (xs : List ℕ) (t first last : ℕ) (b : BlockOf xs t first last) where
   pub has-block : first < last → hasBlock xs t ≡ true
-  has-block h = has xs t first (lt-of-lt-of-le h (b .within)) (b .inside first (le-refl first) h)
+  has-block h = some-at (λ w. eqb w t) 0 xs first (lt-of-lt-of-le h (b .within)) (eq-eqb (getD xs first 0) t (b .inside first (le-refl first) h))
 
   pub no-block : last ≤ first → hasBlock xs t ≡ false
-  no-block h = has-not xs t (λ k l e. go k l e (decLe first k))
+  no-block h = no-term xs t .1 (λ k l e. go k l e (decLe first k))
     where
       go : (k : ℕ) → k < length xs → getD xs k 0 ≡ t → Dec (first ≤ k) → ⊥
       go k l e (yes p) = let u : t < getD xs k 0 = b .after k (le-trans h p) l in omega arith

@@ -10,11 +10,12 @@ use lib.Bits.{bitXor}
 use lib.Ieee.{Float}
 use lib.ListN.{length}
 use Rattle.encoding.specs.Refusals.{fault, faultFrom, someBelow}
-use Rattle.encoding.proofs.Spare.{any-hit, any-never}
+use Rattle.encoding.proofs.Scan.{any-hit, any-never}
+use Rattle.encoding.proofs.Faults.{orElse, fault-append}
 use Rattle.mat_elem.specs.Terms.{termTests, hasBlock, foundOf}
 use Rattle.mat_elem.specs.declared.Found.{Found}
 use Rattle.mat_elem.specs.declared.Found.the-variants as F
-use Rattle.mat_elem.proofs.Faults.{orElse, fault-append, found-refusal, found-block, sound}
+use Rattle.mat_elem.proofs.Faults.{found-refusal, found-block, sound}
 use Rattle.mat_elem.proofs.SumLaws.{range-none, range-next, block-range, block-some, has-block, no-block}
 use Rattle.mat_elem_float.specs.Sums.{complex, plus, termAt, plusZero, sumTo, bothFinite, wild, overflows, element, elementOf}
 use Rattle.mat_elem_float.specs.Span.{spanSum, sumOf, spanOf}

@@ -14,14 +14,12 @@ use lib.Ieee.{Float, nan, binary64, add, fits}
 use lib.Ieee.Scale.{finite}
 use lib.ListN.{length, getD}
 use Rattle.encoding.specs.Refusals.{fault, faultFrom, some, someBelow}
-use Rattle.encoding.proofs.Faults.{pass, First}
-use Rattle.encoding.proofs.Spare.{any-hit}
-use Rattle.encoding.proofs.Scan.{none-of, some-none}
+use Rattle.encoding.proofs.Faults.{pass, First, orElse, or-none}
+use Rattle.encoding.proofs.Scan.{none-of, some-none, any-hit, any-same}
 use Rattle.mat_elem.specs.Terms.{termTests, inBlock, hasBlock}
 use Rattle.mat_elem.specs.Sums.{exponentOf, stepIf, sumOver}
 use Rattle.mat_elem.proofs.OneOf.{Differ, refused-when as any-refused, none-when as any-none}
-use Rattle.mat_elem.proofs.Faults.{orElse, or-none, sound}
-use Rattle.mat_elem.proofs.SumLaws.{each-of}
+use Rattle.mat_elem.proofs.Faults.{sound}
 use Rattle.mat_elem_float.specs.Sums.{plus, termAt, sumTo, bothFinite, wild, overflows, floatTests, element, elementOf}
 use Rattle.mat_elem_float.specs.Product.{notMinusZero, productTo, productOf, MatElem}
 use Rattle.mat_elem_float.specs.declared.Complex.{Complex}
@@ -112,7 +110,7 @@ module _ (n : ℕ) (xs zs : List ℕ) (re im : List Float) (bra ket : ℕ) (fr :
       go (suc j) e = refl
       go zero e =
           ap₂ (λ (b : Bool) (s : Complex). element (faultFrom 12 (b ∷ [])) (hasBlock xs t) s)
-          (each-of (λ k. bad (sumTo xs zs re im t ket k)) (λ k. bad (productTo z xs zs re im t ket k)) (suc (length xs)) (λ k l. ap bad (sym (sums z e k (le-of-suc-le-suc l) .0))))
+          (any-same (λ k. bad (sumTo xs zs re im t ket k)) (λ k. bad (productTo z xs zs re im t ket k)) (suc (length xs)) (λ k l. ap bad (sym (sums z e k (le-of-suc-le-suc l) .0))))
           (sym (sums z e (length xs) (omega arith) .0))
 
   not-minus : (a b : Float) → elementOf n xs zs re im bra ket ≡ Sum a b → T (notMinusZero a) × T (notMinusZero b)

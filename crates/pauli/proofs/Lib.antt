@@ -6,6 +6,7 @@ pub mod Every
 pub mod Products
 pub mod Phases
 pub mod RowLaws
+pub mod RowTests
 pub mod OnQubits
 pub mod Vectors
 pub mod Meaning

@@ -3,7 +3,7 @@
 use mathlib.Core.Path.{_≡_, refl, sym, ap, ap₂, _∙_}
 use mathlib.Core.Bool.{Bool, true, false, not, _&&_, _||_}
 use mathlib.Core.List.{List, [], _∷_, map}
-use Prim.Native.Nat.{ℕ, zero, suc, _+_, _-_, _*_, _/_, _%_, _^_, _≤_, _<_}
+use Prim.Native.Nat.{ℕ, zero, suc, _+_, _-_, _*_, _/_, _^_, _<_}
 use native.Mathlib.Nat.{pow-suc, mul-add, mul-zero, suc-inj}
 use native.Mathlib.Omega.{arith}
 use lib.Arith.{le-zero}
@@ -14,7 +14,7 @@ use lib.Dec.{T, eqb, eqb→eq}
 use lib.ListN.{length, getD, List·getD-map, length-map}
 use Rattle.encoding.specs.Words.{odd, bit}
 use Rattle.encoding.proofs.Odd.{xorᵇ}
-use Rattle.pauli.proofs.Bools.{and-left, and-right}
+use Rattle.pauli.proofs.Bools.{T-left, T-right}
 use Rattle.encoding.proofs.Odd.{bit-odd, and-odd, and-half, or-odd, or-half, xor-odd, xor-half, not-odd, not-half}
 
 -- a mask over words: word number k, or one made of others
@@ -116,8 +116,8 @@ atL : (n : ℕ) (f : List Bool → Bool) → T (everyL n f) → (bs : List Bool)
 atL zero f t [] e = t
 atL zero f t (b ∷ bs) e = absurd (omega arith)
 atL (suc n) f t [] e = absurd (omega arith)
-atL (suc n) f t (false ∷ bs) e = atL n (λ bs. f (false ∷ bs)) (and-left (everyL n (λ bs. f (false ∷ bs))) (everyL n (λ bs. f (true ∷ bs))) t) bs (suc-inj e)
-atL (suc n) f t (true ∷ bs) e = atL n (λ bs. f (true ∷ bs)) (and-right (everyL n (λ bs. f (false ∷ bs))) (everyL n (λ bs. f (true ∷ bs))) t) bs (suc-inj e)
+atL (suc n) f t (false ∷ bs) e = atL n (λ bs. f (false ∷ bs)) (T-left (everyL n (λ bs. f (false ∷ bs))) (everyL n (λ bs. f (true ∷ bs))) t) bs (suc-inj e)
+atL (suc n) f t (true ∷ bs) e = atL n (λ bs. f (true ∷ bs)) (T-right (everyL n (λ bs. f (false ∷ bs))) (everyL n (λ bs. f (true ∷ bs))) t) bs (suc-inj e)
 
 -- THE LAW: where the masks add up to v at one place, which a test shows, their counts add up to the sum of v over the places
 pub counts : (ms : List (ℕ × Mask)) (v : List Bool → ℕ) (n : ℕ) → T (everyL n (λ bs. eqb (place bs ms) (v bs)))

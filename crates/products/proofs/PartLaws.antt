@@ -1,19 +1,20 @@
 -- Parts of words that are written: what stands there, and what writing one leaves of the others. Assumes nothing.
 use mathlib.Core.Path.{_≡_, refl, sym, ap, ap₂, _∙_, subst}
+use mathlib.Core.Bool.{Bool}
 use mathlib.Core.List.{List, [], _∷_, _++_}
-use Prim.Native.Nat.{ℕ, zero, suc, _+_, _-_, _*_, _%_, _^_, _≤_, _<_, zero-le}
-use native.Mathlib.Nat.{suc-mul, mul-le-mul-right, ne-of-lt, not-suc-le-zero}
+use Prim.Native.Nat.{ℕ, zero, suc, _+_, _-_, _*_, _%_, _≤_, _<_, zero-le}
 use mathlib.Core.Logic.{_≢_}
 use native.Mathlib.Decide.{decLt}
 use native.Mathlib.Omega.{arith}
-use borrow.Author.Count.{below-more}
 use lib.Arith.{lt-of-le-ne}
-use lib.ListN.{length, getD, take, drop, set, length-take, length-drop, length-set}
-use lib.Seq.{length-take-le, take-at, drop-at, take-take, drop-drop, getD-set-same, getD-set-other}
-use borrow.Rule.Slice.PartMut.{midOf, postOf, putMid, same-len-mid, mid-len, take-put, drop-put}
+use lib.ListN.{length, take, drop}
+use lib.Seq.{length-take-le, take-all, take-at, drop-at, take-take, drop-drop}
+use borrow.Rule.Slice.PartMut.{postOf, putMid, same-len-mid, take-put, drop-put}
 use Rattle.encoding.proofs.Parts.{row-end, length-part}
+use Rattle.pauli.specs.Pauli.{Pauli, hasX, hasZ, mul, phases, act, actPhase}
+use Rattle.encoding.specs.Words.{unpack, unbits, pack}
 use Rattle.encoding.specs.Set.{part, row}
-use Rattle.products.specs.Leaves.{Acted, ActedAt, SameLength, Outside, Product, ProductAt}
+use Rattle.products.specs.Leaves.{Acted, ActedAt, RowAction, SameLength, Outside, Product, ProductAt, RowProduct, shortest₃, shortest₆}
 
 -- the parts from a to e of six runs that all reach e
 pub parts-same : (lx lz rx rz ox oz : List ℕ) (a e : ℕ) → a ≤ e → e ≤ length lx → e ≤ length lz → e ≤ length rx → e ≤ length rz → e ≤ length ox → e ≤ length oz
@@ -96,3 +97,41 @@ product-up-to {k} {k′} {lx} {lz} {rx} {rz} {ox} {oz} {ox′} {oz′} {e} q p =
 
 pub acted-up-to : {k k′ : ℕ} {lx lz st st′ : List ℕ} {e : ℕ} → k ≡ k′ → ActedAt k lx lz st st′ e → ActedAt k′ lx lz st st′ e
 acted-up-to {k} {k′} {lx} {lz} {st} {st′} {e} q p = subst (λ (j : ℕ). ActedAt j lx lz st st′ e) q p
+
+-- ---- parts of the same length: the leaf does all of them
+
+pub whole : (k : ℕ) (l : List ℕ) → k ≡ length l → part 0 k l ≡ l
+whole k l e = take-all (k - 0) l (omega arith)
+
+pub same-product : {lx lz rx rz ox oz ox′ oz′ : List ℕ} {e : ℕ} → SameLength (length lx) lx lz rx rz ox oz → RowProduct lx lz rx rz ox oz ox′ oz′ e → Product lx lz rx rz ox′ oz′ e
+same-product {lx} {lz} {rx} {rz} {ox} {oz} {ox′} {oz′} {e} s p =
+    let k = shortest₆ lx lz rx rz ox oz in
+    let is : k ≡ length lx = omega (arith, s .in-lz, s .in-rx, s .in-rz, s .in-ox, s .in-oz) in
+    let l : unpack (part 0 k lx) (part 0 k lz) ≡ unpack lx lz = ap₂ unpack (whole k lx is) (whole k lz (is ∙ sym (s .in-lz))) in
+    let r : unpack (part 0 k rx) (part 0 k rz) ≡ unpack rx rz = ap₂ unpack (whole k rx (is ∙ sym (s .in-rx))) (whole k rz (is ∙ sym (s .in-rz))) in
+    record {
+      x-words = sym (whole k ox′ (is ∙ sym (p .x-rest .long ∙ s .in-ox))) ∙ p .here .x-words ∙ ap₂ (pack hasX) (ap length (whole k lx is)) (ap₂ mul l r);
+      z-words = sym (whole k oz′ (is ∙ sym (p .z-rest .long ∙ s .in-oz))) ∙ p .here .z-words ∙ ap₂ (pack hasZ) (ap length (whole k lx is)) (ap₂ mul l r);
+      exponent = p .here .exponent ∙ ap₂ (λ (a b : List Pauli). phases a b % 4) l r;
+    }
+
+-- the parts from a to e were lent, and put back
+pub part-product : {lx lz rx rz ox oz : List ℕ} (a e : ℕ) {px pz : List ℕ} {p : ℕ} → a ≤ e → e ≤ length lx → SameLength (length lx) lx lz rx rz ox oz
+    → length px ≡ length (part a e ox) → length pz ≡ length (part a e oz)
+    → RowProduct (part a e lx) (part a e lz) (part a e rx) (part a e rz) (part a e ox) (part a e oz) px pz p
+    → ProductAt a e lx lz rx rz ox oz (putMid a (e - a) ox px) (putMid a (e - a) oz pz) p
+part-product {lx} {lz} {rx} {rz} {ox} {oz} a e h k s hx hz q =
+    let to : (l : List ℕ) → length l ≡ length lx → e ≤ length l = λ l g. omega arith in
+    product-at ox oz a e h (to ox (s .in-ox)) (to oz (s .in-oz)) hx hz
+    (same-product (parts-same lx lz rx rz ox oz a e h k (to lz (s .in-lz)) (to rx (s .in-rx)) (to rz (s .in-rz)) (to ox (s .in-ox)) (to oz (s .in-oz))) q)
+
+pub same-action : {lx lz st st′ : List ℕ} {e : ℕ} → length lz ≡ length lx → length st ≡ length lx → RowAction lx lz st st′ e → Acted lx lz st st′ e
+same-action {lx} {lz} {st} {st′} {e} hz hs p =
+    let k = shortest₃ lx lz st in
+    let is : k ≡ length lx = omega arith in
+    let l : unpack (part 0 k lx) (part 0 k lz) ≡ unpack lx lz = ap₂ unpack (whole k lx is) (whole k lz (is ∙ sym hz)) in
+    let s : unbits (part 0 k st) ≡ unbits st = ap unbits (whole k st (is ∙ sym hs)) in
+    record {
+      state = sym (whole k st′ (is ∙ sym (p .rest .long ∙ hs))) ∙ p .here .state ∙ ap₂ (pack (λ (b : Bool). b)) (ap length (whole k lx is)) (ap₂ act l s);
+      exponent = p .here .exponent ∙ ap₂ (λ (a : List Pauli) (b : List Bool). actPhase a b % 4) l s;
+    }

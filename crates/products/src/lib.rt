@@ -11,7 +11,7 @@ ghost use Rattle.products.specs.Leaves.{SameLength, Product, ProductAt, 
 use pauli::ComplexSign;
 
 // How many bits of x are set.
-fn count(x: u64) -> u64
+pub fn count(x: u64) -> u64
     ensures { λ r. ⌜ (r ≡ ones x) × (r ≤ 64) ⌝ }
 {
     u64::count_ones(x) as u64

@@ -10,9 +10,9 @@ use mathlib.Core.List.{List, [], _∷_, _++_}
 use lib.Dec.{eqb}
 use lib.ListN.{length, getD, drop, length-append}
 use borrow.Author.Tests.{eqb-false, not-true}
+use Rattle.pauli.proofs.Bools.{cond-ind, and-left, and-right}
 use Rattle.reduction.specs.Lists.{In, Distinct, different, All}
 use Rattle.reduction.specs.Rule.{entry, Run, multiply, counted, first, clear, pivot, columns, reduce}
-use Rattle.reduction.proofs.Cases.{cond-ind, and-left, and-right}
 use Rattle.reduction.proofs.Lists.{all-mono, all-get, in-drop-suc, drop-short, most-different, most-below}
 use Rattle.reduction.proofs.Run.{mulAt-ind, first-some, col-ind, pivot-t, head-in, found-left, ext-found}
 use Rattle.reduction.proofs.Walk.{found-one, pivot-left, ext-keep}

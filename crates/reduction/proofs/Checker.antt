@@ -6,6 +6,7 @@ use mathlib.Core.Logic.{inl, inr, ⊎-elim, _↔_}
 use mathlib.Core.Bool.{Bool, true, false, cond, false≢true}
 use mathlib.Core.Option.{Option, none, some}
 use mathlib.Core.List.{List, _++_}
+use Rattle.pauli.proofs.Bools.{cond-ind}
 use Rattle.reduction.specs.Lists.{In, All}
 use Rattle.reduction.specs.Rule.{Entry}
 use Rattle.reduction.specs.Replay.{replay}
@@ -13,8 +14,7 @@ use Rattle.reduction.specs.Form.{ReducedForm}
 use Rattle.reduction.specs.Checker.{firstDiff, badEntry, differs, notReduced, accepted, verdictBy, verdict}
 use Rattle.reduction.specs.Demand.{Asked, Good, Agree, Right, NamesAll, NoPhase}
 use Rattle.reduction.specs.Laws.{Laws}
-use Rattle.reduction.proofs.Cases.{cond-ind, none≢some}
-use Rattle.reduction.proofs.Lists.{all-mono, in-left, same?}
+use Rattle.reduction.proofs.Lists.{all-mono, in-left, same?, none≢some}
 use Rattle.reduction.proofs.Walk.{Walk, end, skip, pivotAt}
 use Rattle.reduction.proofs.Forms.{walk-iff-form, test-iff-walk}
 use Rattle.reduction.proofs.Entries.{BadAt, bad-none, none-bad, first-bad}

@@ -9,12 +9,12 @@ use mathlib.Core.List.{List, [], _∷_, _++_}
 use lib.Dec.{eqb}
 use lib.ListN.{length}
 use borrow.Author.Tests.{eqb-false, ne-eqb, not-true}
+use Rattle.pauli.proofs.Bools.{cond-ind, and-left, and-right, and-both, not-so}
 use Rattle.reduction.specs.Lists.{has, All}
 use Rattle.reduction.specs.Rule.{Entry}
 use Rattle.reduction.specs.Checker.{good, firstBad}
 use Rattle.reduction.specs.Demand.{Asked, Good}
-use Rattle.reduction.proofs.Cases.{cond-ind, none≢some, and-left, and-right, and-both, not-so}
-use Rattle.reduction.proofs.Lists.{has→in, in→has, in-left}
+use Rattle.reduction.proofs.Lists.{has→in, in→has, in-left, none≢some}
 
 module _ (listed extra : List ℕ) where
   pub good→ : (e : Entry) → good listed extra e ≡ true → Good listed extra e

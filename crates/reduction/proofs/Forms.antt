@@ -9,9 +9,9 @@ use mathlib.Core.List.{List, [], _∷_, _++_}
 use lib.Dec.{eqb}
 use lib.ListN.{length, getD}
 use borrow.Author.Tests.{eqb-true, eq-eqb, ne-eqb, not-true}
+use Rattle.pauli.proofs.Bools.{cond-ind, and-left, and-right, and-both, or-true-or}
 use Rattle.reduction.specs.Lists.{In, Distinct}
 use Rattle.reduction.specs.Form.{Form, ReducedForm, zeroIn, onlyIn, reducedFrom, reduced}
-use Rattle.reduction.proofs.Cases.{cond-ind, and-left, and-right, and-both, or-true-or}
 use Rattle.reduction.proofs.Lists.{every→, →every, same?, in-left, in-getD, place-of}
 use Rattle.reduction.proofs.Walk.{Walk, end, skip, pivotAt, pivots}
 

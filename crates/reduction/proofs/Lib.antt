@@ -1,5 +1,3 @@
-pub mod Cases
-pub mod Xor
 pub mod Lists
 pub mod Log
 pub mod Run

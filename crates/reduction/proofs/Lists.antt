@@ -6,11 +6,16 @@ use mathlib.Core.Path.{_≡_, refl, sym, ap, _∙_, subst}
 use mathlib.Core.Logic.{_⊎_, inl, inr, ⊎-elim}
 use mathlib.Core.Bool.{Bool, true, cond, not, _||_, false≢true}
 use mathlib.Core.List.{List, [], _∷_, _++_}
+use mathlib.Core.Option.{Option, none, some}
 use lib.Dec.{eqb}
 use lib.ListN.{length, getD, take, drop}
 use borrow.Author.Tests.{eqb-true, eqb-false, eq-eqb, not-true}
+use Rattle.pauli.proofs.Bools.{cond-ind, and-left, and-right, and-both, or-true-or, or-right}
 use Rattle.reduction.specs.Lists.{In, has, Distinct, distinct, different, All, every}
-use Rattle.reduction.proofs.Cases.{cond-ind, and-left, and-right, and-both, or-true-or, or-right}
+
+-- nothing found is not a place
+pub none≢some : {k : ℕ} → _≡_ {A = Option ℕ} none (some k) → ⊥
+none≢some {k} e = let z : _≡_ {A = ℕ} 0 1 = cc in omega arith
 
 -- ---- what holds of each element
 

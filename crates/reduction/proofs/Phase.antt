@@ -6,13 +6,13 @@ use native.Mathlib.Omega.{arith}
 use mathlib.Core.Path.{_≡_, refl, sym, ap, _∙_}
 use mathlib.Core.Bool.{Bool, false, xor}
 use mathlib.Core.List.{List, [], _∷_, _++_}
+use Rattle.pauli.proofs.Bools.{xor-same, xor-back}
 use Rattle.reduction.specs.Lists.{In, All}
 use Rattle.reduction.specs.Rule.{Entry, mulAt}
 use Rattle.reduction.specs.Replay.{replay, productOf}
 use Rattle.reduction.specs.Demand.{NoPhase}
 use Rattle.reduction.specs.Laws.{Laws}
 use Rattle.reduction.proofs.Lists.{all-append}
-use Rattle.reduction.proofs.Xor.{xor-same, xor-back}
 use Rattle.reduction.proofs.Run.{mulAt-ind}
 
 module _ {R : Type 0} (mul : R → R → R) (assoc : (a b c : R) → mul (mul a b) c ≡ mul a (mul b c)) where

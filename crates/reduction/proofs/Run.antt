@@ -9,12 +9,12 @@ use mathlib.Core.List.{List, [], _∷_, _++_, append-assoc, append-nil}
 use lib.Dec.{eqb}
 use lib.ListN.{getD, drop}
 use borrow.Author.Tests.{eqb-true, eqb-false, not-true}
+use Rattle.pauli.proofs.Bools.{cond-ind, and-left}
 use Rattle.reduction.specs.Lists.{In, All}
 use Rattle.reduction.specs.Rule.{Entry, entry, Run, mulAt, multiply, counted, first, clear, pivot, columnBy, column, columns, reduce}
 use Rattle.reduction.specs.Replay.{replay}
 use Rattle.reduction.specs.Demand.{Good}
-use Rattle.reduction.proofs.Cases.{cond-ind, none≢some, and-left}
-use Rattle.reduction.proofs.Lists.{all-mono, all-append, in-left, in-drop, in-drop-suc, drop-in}
+use Rattle.reduction.proofs.Lists.{all-mono, all-append, in-left, in-drop, in-drop-suc, drop-in, none≢some}
 
 module _ {R : Type 0} (mul : R → R → R) where
   -- a row after a product: the target's, or as before

@@ -5,12 +5,12 @@ use mathlib.Core.Path.{_≡_, refl, sym, ap, _∙_, subst}
 use mathlib.Core.Logic.{_⊎_, inl, inr, ⊎-elim}
 use mathlib.Core.Bool.{Bool, true, false, xor, false≢true}
 use mathlib.Core.List.{List, [], _∷_, _++_}
+use Rattle.pauli.proofs.Bools.{xor-ff, xor-ff-l, xor-same, xor-comm, xor-assoc, xor-eq, xor-back, xor-swap}
 use Rattle.reduction.specs.Lists.{In, Distinct, All}
 use Rattle.reduction.specs.Rule.{Entry, mulAt}
 use Rattle.reduction.specs.Replay.{replay}
 use Rattle.reduction.specs.Demand.{Good}
 use Rattle.reduction.proofs.Lists.{all-mono, same?, in?, in-left}
-use Rattle.reduction.proofs.Xor.{xor-ff, xor-ff-l, xor-same, xor-comm, xor-assoc, xor-eq, xor-back, xor-swap}
 use Rattle.reduction.proofs.Walk.{Walk, end, skip, pivotAt}
 use Rattle.reduction.proofs.Run.{mulAt-ind}
 

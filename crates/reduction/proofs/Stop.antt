@@ -11,11 +11,11 @@ use lib.Dec.{eqb, leb, ltb}
 use lib.ListN.{length, getD, take, drop, length-append}
 use lib.Seq.{take-at}
 use borrow.Author.Tests.{ltb-true, ltb-false, le-leb, lt-leb}
+use Rattle.pauli.proofs.Bools.{cond-ind}
 use Rattle.reduction.specs.Rule.{Entry, entry, Run, multiply, counted, first, clear, pivot, columnBy, column, columns, reduce}
 use Rattle.reduction.specs.Replay.{replay}
 use Rattle.reduction.specs.Capacity.{Reduced, done, full, capped}
 use Rattle.reduction.specs.Twin.{andThen, through, multiplyC, turnC, leadC, pivotC, columnByC, columnC}
-use Rattle.reduction.proofs.Cases.{cond-ind}
 use Rattle.reduction.proofs.Run.{Ext, ext-none, ext-step, ext-clear, ext-columns, ext-mono, replay-append}
 
 module _ {R : Type 0} (bit : R → ℕ → Bool) (mul : R → R → R) (capacity : ℕ) (order listed extra : List ℕ) (σ : ℕ → R) where

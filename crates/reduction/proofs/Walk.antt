@@ -9,11 +9,10 @@ use mathlib.Core.List.{List, [], _∷_, _++_}
 use lib.Dec.{eqb}
 use lib.ListN.{getD, drop}
 use borrow.Author.Tests.{eqb-true, eqb-false, not-true, not-false}
+use Rattle.pauli.proofs.Bools.{cond-ind, and-left, and-right, and-false-or, xor-ff}
 use Rattle.reduction.specs.Lists.{In, Distinct, All}
 use Rattle.reduction.specs.Rule.{Entry, Run, mulAt, multiply, counted, first, clear, pivot, columns, reduce}
 use Rattle.reduction.specs.Replay.{replay}
-use Rattle.reduction.proofs.Cases.{cond-ind, and-left, and-right, and-false-or}
-use Rattle.reduction.proofs.Xor.{xor-ff}
 use Rattle.reduction.proofs.Lists.{all-mono, in-left, in-drop, distinct-drop}
 use Rattle.reduction.proofs.Run.{mulAt-ind, Ext, Reach, first-none, first-some, first-head, col-ind, ext-columns, pivot-t, split-left, found-left}
 

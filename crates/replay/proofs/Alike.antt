@@ -15,12 +15,12 @@ use Rattle.pauli.specs.Row.{sameQubits, sameRow}
 use Rattle.encoding.specs.Words.{qubits}
 use Rattle.encoding.specs.Set.{row, Mem, count, rowsIn, Valid}
 use Rattle.encoding.proofs.Parts.{row-end, getD-part, length-part}
+use Rattle.encoding.proofs.Sets.{row-words}
 use Rattle.reduction.specs.Checker.{firstDiff}
-use Rattle.reduction.proofs.Cases.{not-so}
-use Rattle.reduction.proofs.PauliRows.{qubits→, →qubits}
+use Rattle.pauli.proofs.Bools.{not-so}
+use Rattle.pauli.proofs.RowTests.{qubits→, →qubits}
 use native.Mathlib.Nat.{add-sub-cancel-left}
 use Rattle.replay.specs.Steps.{placeOf}
-use Rattle.replay.proofs.Words.{row-words}
 
 -- ---- the words of a row
 

@@ -12,6 +12,7 @@ use lib.Dec.{eqb}
 use Rattle.pauli.specs.Row.{Row, mulRow, bitRow, sameRow}
 use Rattle.encoding.specs.Limits.{wordsOf}
 use Rattle.encoding.specs.Set.{Mem, count, rowsIn, rowsOf, Valid}
+use Rattle.encoding.proofs.Sets.{same-words, same-bytes}
 use Rattle.reduction.specs.Lists.{In, All}
 use Rattle.reduction.specs.Rule.{Entry, mulAt}
 use Rattle.reduction.specs.Log.{pairs}
@@ -29,7 +30,6 @@ use Rattle.replay.specs.Check.{Task, Claim, Passed, Checked, checkFault,
 use Rattle.replay.specs.Demand.{RightClaim, EveryColumn, NoPhaseAtStart}
 use Rattle.replay.specs.declared.Verdict.{Verdict}
 use Rattle.replay.specs.declared.Verdict.the-variants.{BadEntry, Differs, NotReduced, Yes, Refused}
-use Rattle.replay.proofs.Words.{same-words, same-bytes}
 
 -- ---- the answer tells the verdict
 
@@ -148,7 +148,7 @@ module _ {T : Task} {A B : Claim} {left left′ : Mem} (c : Checked T A Yes left
       (rowsOf (T .n) (A .rows)) (rowsOf (T .n) (B .rows)) (on-verdict c accepted refl .1) (on-verdict d accepted refl .1) k (omega (arith, a-set .of-claim .as-many)))
     where
       small : (j : ℕ) → rowsIn (T .n) (wordsOf (T .n)) (T .start) j .p < 4
-      small j = phase-small (a-set .of-task .start-set .valid) j
+      small j = phase-small (a-set .of-task .sound .valid) j
 
 -- ---- the contract leaves no choice: any two outcomes that it allows are the same
 

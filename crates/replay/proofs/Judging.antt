@@ -12,7 +12,7 @@ use lib.Dec.{eqb}
 use lib.ListN.{length, take}
 use Rattle.pauli.specs.Row.{Row, mulRow, bitRow, sameRow}
 use Rattle.encoding.specs.Limits.{maxRows, wordsOf}
-use Rattle.encoding.specs.Set.{Mem, count, rowsOf, lay}
+use Rattle.encoding.specs.Set.{Mem, count, rowsOf, lay, Sound}
 use Rattle.encoding.specs.Refusals.{tooLarge}
 use Rattle.encoding.specs.Refusals as refusals
 use Rattle.encoding.proofs.Memory.{laid, lay-back}
@@ -24,15 +24,15 @@ use Rattle.reduction.specs.Form.{zeroIn, onlyIn, reducedFrom, reduced}
 use Rattle.reduction.specs.Checker.{firstBad, firstDiff, verdictBy, verdict, working, workingBy}
 use Rattle.reduction.specs.Demand.{Asked, Good}
 use Rattle.reduction.proofs.Lists.{all-mono, in-left, in-right}
+use Rattle.reduction.proofs.Log.{take-entries}
 use Rattle.reduction.proofs.Entries.{bad-none}
 use Rattle.terms.specs.Leaves.{bitIn, mulIn}
-use Rattle.terms.specs.Work.{Sound}
 use Rattle.terms.proofs.RowView.{bit-view, mul-view}
 use Rattle.replay.specs.Check.{Task, task, Claim, claim, Passed, given, verdictOn}
 use Rattle.replay.specs.Steps.{self, redone, placeOf, Judged}
 use Rattle.replay.specs.declared.Verdict.{Verdict}
 use Rattle.replay.specs.declared.Verdict.the-variants.{BadEntry, Differs, NotReduced, Yes}
-use Rattle.replay.proofs.Log.{place-in, place-out, take-entries}
+use Rattle.replay.proofs.Log.{place-in, place-out}
 
 -- ---- the entries done in memory
 
@@ -107,7 +107,7 @@ module _ (T : Task) (C : Mem) where
 
     module _ (h : count (T .start) ≤ d) {b : Bool} (f : b ≡ reduced (bitIn (T .n) (T .start .xs) (T .start .zs)) (T .order) (T .listed) (T .extra) self) where
       says : verdictBy none none b ≡ verdictOn T (claim [] C)
-      says = on-empty (place-out (count (T .start)) d h e) (sym (f ∙ form-view (T .order) (T .listed) (T .extra) (s .of-task .start-set) (s .of-task .asked)))
+      says = on-empty (place-out (count (T .start)) d h e) (sym (f ∙ form-view (T .order) (T .listed) (T .extra) (s .of-task .sound) (s .of-task .asked)))
 
       pub says-yes : b ≡ true → Yes ≡ given (verdictOn T (claim [] C))
       unfolding verdictBy
@@ -145,7 +145,7 @@ module _ (T : Task) (L : Claim) (s : Passed T (L .rows)) {b : ℕ} (e : placeOf 
             (reduced (bitRow n) (T .order) (T .listed) (T .extra) (replay (mulRow n) σ (pairs (L .log)))))) p);
         rows =
             m ∙ ap (λ j. redone n (take j (pairs (L .log))) (T .start)) z
-            ∙ sym (ap (λ o. lay n (count (T .start)) (workingBy (mulRow n) o σ (pairs (L .log)))) p ∙ lay-back n (wordsOf n) (s .of-task .start-set .valid));
+            ∙ sym (ap (λ o. lay n (count (T .start)) (workingBy (mulRow n) o σ (pairs (L .log)))) p ∙ lay-back n (wordsOf n) (s .of-task .sound .valid));
       }
 
   module _ (h : length (L .log) / 2 ≤ b) where
@@ -160,7 +160,7 @@ module _ (T : Task) (L : Claim) (s : Passed T (L .rows)) {b : ℕ} (e : placeOf 
       after =
           subst (Replayed (T .n) (T .start) (replay (mulRow (T .n)) (rowsOf (T .n) (T .start)) (pairs (L .log))))
           (sym (m ∙ ap (λ es. redone (T .n) es (T .start)) (ap (λ j. take j (pairs (L .log))) z ∙ take-entries (L .log))))
-          (replayed (T .n) (T .start) (pairs (L .log)) (s .of-task .start-set) inside)
+          (replayed (T .n) (T .start) (pairs (L .log)) (s .of-task .sound) inside)
 
       -- the rows after the replay can be compared
       pub judge-passed : Passed (task (T .n) M (T .order) (T .listed) (T .extra)) (L .rows)
@@ -168,7 +168,7 @@ module _ (T : Task) (L : Claim) (s : Passed T (L .rows)) {b : ℕ} (e : placeOf 
           record {
             of-task =
                 record {
-                  start-set = after .sound;
+                  sound = after .sound;
                   asked = subst (λ k. Asked (T .n + T .n) k (T .order) (T .listed) (T .extra)) (sym (after .many)) (s .of-task .asked);
                 };
             of-claim = record { claimed-set = s .of-claim .claimed-set; as-many = s .of-claim .as-many ∙ sym (after .many) };

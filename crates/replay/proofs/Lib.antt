@@ -1,10 +1,8 @@
-pub mod Words
 pub mod Marks
 pub mod Log
 pub mod Alike
 pub mod Faults
 pub mod Judging
-pub mod Laying
 pub mod Looks
 pub mod Demand
 pub mod OwnLog

@@ -11,14 +11,16 @@ use lib.ListN.{length, take, length-take}
 use Rattle.pauli.specs.Row.{Row, mulRow, bitRow, sameRow}
 use Rattle.encoding.specs.Limits.{wordsOf}
 use Rattle.encoding.specs.Set.{Mem, count, rowsIn, rowsOf, lay, Valid}
-use Rattle.encoding.specs.Refusals.{faultFrom, fault, joined, least, setTests, leftOr}
+use Rattle.encoding.specs.Refusals.{faultFrom, fault, joined, least, setTests, leftOr, differentRows}
 use Rattle.encoding.proofs.Faults.{joined-fault, least-none}
 use Rattle.encoding.proofs.Memory.{Proper, mem-eq, within-limits, count-lay, read-lay, valid-lay}
+use Rattle.encoding.proofs.Sets.{same-words, same-bytes, read-proper, set-passes}
 use Rattle.reduction.specs.Rule.{Run, reduce}
 use Rattle.reduction.specs.Replay.{replay}
 use Rattle.reduction.specs.Log.{pairs, units}
 use Rattle.reduction.specs.Form.{reduced}
 use Rattle.reduction.specs.Checker.{firstBad, firstDiff, accepted, verdictBy, verdict, working, workingBy}
+use Rattle.reduction.proofs.Log.{length-pairs}
 use Rattle.reduction.proofs.Entries.{none-bad}
 use Rattle.reduction.proofs.Theorems as theorems
 use Rattle.reduction.proofs.PauliRows.{rows-laws, rows-tell}
@@ -27,14 +29,11 @@ use Rattle.terms.specs.Calls.{upTo, Reduces, ReducesAll}
 use Rattle.terms.specs.declared.Canonicalized.the-variants.{Done}
 use Rattle.terms.proofs.Finished.{Finished, finished, proper-replay, proper-set}
 use Rattle.terms.proofs.Whole.{whole-is, whole-names}
-use Rattle.replay.specs.Check.{Task, task, Claim, claim, countTests, logTests, claimTests, checkFault, givenOr, verdictOn, workingFor, Checked}
+use Rattle.replay.specs.Check.{Task, task, Claim, claim, logTests, claimTests, checkFault, givenOr, verdictOn, workingFor, Checked}
 use Rattle.replay.specs.Demand.{EveryColumn}
 use Rattle.replay.specs.declared.Verdict.{Verdict}
 use Rattle.replay.specs.declared.Verdict.the-variants.{Yes}
-use Rattle.replay.proofs.Words.{same-words, same-bytes}
-use Rattle.replay.proofs.Log.{length-entries}
 use Rattle.replay.proofs.Judging.{good-inside}
-use Rattle.replay.proofs.Laying.{read-proper, set-passes}
 use Rattle.replay.proofs.Demand.{yes-exactly}
 
 -- ---- after a yes the working rows are the claimed ones
@@ -52,12 +51,12 @@ yes-left {T} {L} {left} c =
     let y = yes-exactly c .0 refl in
     let s = c .passed (y .0) in
     let R = y .1 in
-    let p : Proper n m τ = proper-replay es σ (good-inside (s .of-task .asked) es (R .entries)) (proper-set (s .of-task .start-set)) in
+    let p : Proper n m τ = proper-replay es σ (good-inside (s .of-task .asked) es (R .entries)) (proper-set (s .of-task .sound)) in
     let W = lay n m τ in
-    let v : Valid n w W = valid-lay n w m τ (s .of-task .start-set .valid .wide) p in
-    let many : count W ≡ m = count-lay n w m τ (s .of-task .start-set .valid .wide) in
+    let v : Valid n w W = valid-lay n w m τ (s .of-task .sound .valid .wide) p in
+    let many : count W ≡ m = count-lay n w m τ (s .of-task .sound .valid .wide) in
     let as-many : count W ≡ count C = many ∙ sym (s .of-claim .as-many) in
-    let at : (k : ℕ) → k < count W → rowsIn n w W k ≡ τ k = λ k h. let i : k < m = omega arith in read-lay n w m τ (s .of-task .start-set .valid .wide) k i (p .long k i) in
+    let at : (k : ℕ) → k < count W → rowsIn n w W k ≡ τ k = λ k h. let i : k < m = omega arith in read-lay n w m τ (s .of-task .sound .valid .wide) k i (p .long k i) in
     let u = same-words n w v (s .of-claim .claimed-set) as-many (λ k h j g. ap (λ r. bitRow n r j) (at k h) ∙ R .replayed k (omega arith) .bits j g) in
     c .rows
     ∙ ap (λ f. leftOr f (T .start) (workingFor T L)) (y .0)
@@ -71,7 +70,7 @@ none-both : (ts us : List Bool) → fault ts ≡ 0 → fault us ≡ 0 → fault 
 unfolding least
 none-both ts us p q = sym (joined-fault ts us) ∙ ap₂ least p q
 
-counts-pass : {m k : ℕ} → k ≡ m → fault (countTests m k) ≡ 0
+counts-pass : {m k : ℕ} → k ≡ m → fault (differentRows m k) ≡ 0
 unfolding faultFrom
 counts-pass {m} {k} e = simp (eq-eqb k m e)
 
@@ -113,7 +112,7 @@ module _ (T : Task) {M′ : Mem} {log′ : List ℕ} {k t : ℕ} (F : Finished (
 
   whole-entries : length (take (2 * k) log′) ≡ 2 * k
   unfolding run
-  whole-entries = omega (arith, length-take (2 * k) log′, length-entries (take (2 * k) log′), ap length cut, F .entries)
+  whole-entries = omega (arith, length-take (2 * k) log′, length-pairs (take (2 * k) log′), ap length cut, F .entries)
 
   pub own-passes : checkFault T (claim (take (2 * k) log′) M′) ≡ 0
   unfolding run
@@ -123,8 +122,8 @@ module _ (T : Task) {M′ : Mem} {log′ : List ℕ} {k t : ℕ} (F : Finished (
       let l = within-limits n (T .start) start-passed in
       let v : Valid n (wordsOf n) M′ = subst (Valid n (wordsOf n)) (sym (F .laid-out)) (valid-lay n (wordsOf n) m (run .rows) wide proper) in
       none-both (reduceTests n (T .start) (T .order) (T .listed) (T .extra)) (claimTests n m (claim (take (2 * k) log′) M′)) (F .no-fault)
-      (none-both (setTests n M′) (joined (countTests m (count M′)) (logTests (length (take (2 * k) log′)))) (set-passes n M′ (l .0) (omega (arith, F .as-many)) v)
-      (none-both (countTests m (count M′)) (logTests (length (take (2 * k) log′))) (counts-pass (F .as-many)) (log-passes k (length (take (2 * k) log′)) whole-entries)))
+      (none-both (setTests n M′) (joined (differentRows m (count M′)) (logTests (length (take (2 * k) log′)))) (set-passes n M′ (record { valid = v; few-qubits = l .0; few-rows = omega (arith, F .as-many) }))
+      (none-both (differentRows m (count M′)) (logTests (length (take (2 * k) log′))) (counts-pass (F .as-many)) (log-passes k (length (take (2 * k) log′)) whole-entries)))
 
   pub own-accepted : verdictOn T (claim (take (2 * k) log′) M′) ≡ accepted
   unfolding run verdict

@@ -1,22 +1,19 @@
 -- Document 01, "The replay checker" and "Refusal numbers": what a check is given, its refusals, its answer, and the working rows at its end. The
 -- verdict itself stands in reduction's specs/Checker.antt. Assumes nothing.
 use mathlib.Core.Path.{_≡_}
-use mathlib.Core.Bool.{Bool, false, not}
+use mathlib.Core.Bool.{Bool, false}
 use mathlib.Core.List.{List, [], _∷_}
-use Prim.Native.Nat.{ℕ, zero, suc, _+_}
-use lib.Dec.{eqb}
+use Prim.Native.Nat.{ℕ, zero, suc}
 use lib.ListN.{length}
 use Rattle.pauli.specs.Row.{mulRow, bitRow, sameRow}
 use Rattle.encoding.specs.Limits.{wordsOf}
 use Rattle.encoding.specs.Words.{odd}
 use Rattle.encoding.specs.Set.{Mem, count, rowsOf, lay, Valid}
-use Rattle.encoding.specs.Refusals.{fault, joined, setTests, leftOr}
+use Rattle.encoding.specs.Refusals.{fault, joined, setTests, differentRows, leftOr}
 use Rattle.reduction.specs.Log.{pairs}
 use Rattle.reduction.specs.Checker.{verdict, working, badEntry, differs, notReduced, accepted}
 use Rattle.reduction.specs.Checker as checker
-use Rattle.reduction.specs.Demand.{Asked}
-use Rattle.terms.specs.Refused.{reduceTests}
-use Rattle.terms.specs.Work.{Sound}
+use Rattle.terms.specs.Refused.{reduceTests, Reducible}
 use Rattle.replay.specs.declared.Verdict.{Verdict}
 use Rattle.replay.specs.declared.Verdict.the-variants.{BadEntry, Differs, NotReduced, Yes, Refused}
 
@@ -41,17 +38,13 @@ claim log rows = record { log = log; rows = rows }
 
 -- ---- refusals
 
--- 3: sets of different m
-abbrev pub countTests : ℕ → ℕ → List Bool
-countTests m k = false ∷ false ∷ not (eqb k m) ∷ []
-
 -- 9: a log of odd length
 abbrev pub logTests : ℕ → List Bool
 logTests units = false ∷ false ∷ false ∷ false ∷ false ∷ false ∷ false ∷ false ∷ odd units ∷ []
 
 -- 1 to 5 of the claimed rows, "a set of the same n and m"; 9
 abbrev pub claimTests : ℕ → ℕ → Claim → List Bool
-claimTests n m L = joined (setTests n (L .rows)) (joined (countTests m (count (L .rows))) (logTests (length (L .log))))
+claimTests n m L = joined (setTests n (L .rows)) (joined (differentRows m (count (L .rows))) (logTests (length (L .log))))
 
 -- and 1 to 7 of what was to be reduced: the starting rows, the order, the lists
 abbrev pub checkTests : Task → Claim → List Bool
@@ -61,9 +54,8 @@ abbrev pub checkFault : Task → Claim → ℕ
 checkFault T L = fault (checkTests T L)
 
 -- What they leave: of what was to be reduced, a row set within the limits, listed rows each once, numbers below their limits;
-pub record TaskPassed (T : Task) : Type 0 where
-  pub start-set : Sound (T .n) (T .start)
-  pub asked : Asked (T .n + T .n) (count (T .start)) (T .order) (T .listed) (T .extra)
+abbrev pub TaskPassed : Task → Type 0
+TaskPassed T = Reducible (T .n) (T .order) (T .listed) (T .extra) (T .start)
 
 -- of what is claimed, a row set of the same n and m.
 pub record ClaimPassed (n m : ℕ) (claimed : Mem) : Type 0 where

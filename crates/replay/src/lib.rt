@@ -3,14 +3,13 @@ ghost use mathlib.Core.Path.{_≡_};
 ghost use mathlib.Core.List.{[]};
 ghost use lib.ListN.{length};
 ghost use Rattle.encoding.specs.Set.{mem};
-ghost use Rattle.encoding.specs.Refusals.{fault, joined};
-ghost use Rattle.terms.specs.Refused.{reduceTests};
-ghost use Rattle.replay.specs.Check.{task, claim, countTests, logTests, claimTests, TaskPassed, ClaimPassed, Passed, given, verdictOn, Checked};
+ghost use Rattle.encoding.specs.Refusals.{fault, joined, differentRows};
+ghost use Rattle.replay.specs.Check.{task, claim, logTests, claimTests, ClaimPassed, Passed, given, verdictOn, Checked};
 ghost use Rattle.replay.specs.Steps.{Judged};
 use encoding::pick;
 use encoding::set_fault;
 use encoding::smaller;
-use terms::lists::lists_fault;
+use terms::reduce_fault;
 
 mod entries;
 mod form;
@@ -27,27 +26,9 @@ pub enum Verdict {
     Refused(u8),
 }
 
-// The first number of the table that fits what was to be reduced, or 0.
-fn task_fault(
-    n: usize,
-    x: &[u64],
-    z: &[u64],
-    phases: &[u8],
-    order: &[u16],
-    listed: &[u16],
-    extra: &[u16],
-) -> u8
-    ensures { λ r. ⌜ r ≡ fault (reduceTests n (mem (now (x .entry)) (now (z .entry)) (now (phases .entry))) (now (order .entry)) (now (listed .entry)) (now (extra .entry))) ⌝ }
-    ensures passed { λ r. ⌜ (r ≡ 0 → TaskPassed (task n (mem (now (x .entry)) (now (z .entry)) (now (phases .entry))) (now (order .entry)) (now (listed .entry)) (now (extra .entry)))) ⌝ }
-{
-    let a = set_fault(n, x, z, phases);
-    let b = lists_fault(n, phases.len(), order, listed, extra);
-    smaller(a, b)
-}
-
 // 3 for sets of different m, 9 for a log of odd length, or 0.
 fn fit_fault(m: usize, k: usize, units: usize) -> u8
-    ensures { λ r. ⌜ r ≡ fault (joined (countTests m k) (logTests units)) ⌝ }
+    ensures { λ r. ⌜ r ≡ fault (joined (differentRows m k) (logTests units)) ⌝ }
 {
     let a = k != m;
     let b = units % 2 == 1;
@@ -138,7 +119,7 @@ pub fn check(
     ensures { λ r. ⌜ Checked (task n (mem (now (x .entry)) (now (z .entry)) (now (phases .entry))) (now (order .entry)) (now (listed .entry)) (now (extra .entry)))
         (claim (now (log .entry)) (mem (now (cx .entry)) (now (cz .entry)) (now (cphases .entry)))) r (mem (now (x .exit)) (now (z .exit)) (now (phases .exit))) ⌝ }
 {
-    let a = task_fault(n, x, z, phases, order, listed, extra);
+    let a = reduce_fault(n, x, z, phases, order, listed, extra);
     let b = claim_fault(n, phases.len(), log, cx, cz, cphases);
     let f = smaller(a, b);
     if f != 0 {

@@ -3,7 +3,7 @@ use Prim.Native.Nat.{ℕ, zero, suc, _+_, _-_, _/_, _<_, _≤_}
 use native.Mathlib.Decide.{ℕ-discrete}
 use native.Mathlib.Omega.{arith}
 use mathlib.Core.Path.{_≡_, refl, sym, ap, ap₂, _∙_, subst}
-use mathlib.Core.Bool.{Bool, true, false, cond, _||_}
+use mathlib.Core.Bool.{true, false, cond, _||_}
 use mathlib.Core.List.{List, []}
 use lib.Arith.{lt-of-le-ne}
 use lib.ListN.{length, getD, take, set}
@@ -11,86 +11,73 @@ use lib.Seq.{length-take-le, ext-getD, getD-take, getD-set-same, getD-set-other}
 use borrow.Author.Tests.{leb-false}
 use Rattle.pauli.specs.Row.{Row, mulRow, bitRow}
 use Rattle.encoding.specs.Limits.{maxQubits, maxRows, wordsOf}
-use Rattle.encoding.specs.Set.{Mem, count, rowsOf, lay, Valid}
-use Rattle.encoding.specs.Refusals.{faultFrom, fault, least, tooLarge, setTests, numberTests, doneOr, leftOr}
+use Rattle.encoding.specs.Set.{Mem, count, rowsOf, lay, Valid, Sound}
+use Rattle.encoding.specs.Refusals.{fault, least, tooLarge, setTests, numberTests, doneOr, leftOr, rowsTests}
 use Rattle.encoding.specs.declared.Answer.the-variants as answer
 use Rattle.encoding.proofs.Scan.{none-of}
-use Rattle.encoding.proofs.Faults.{joined-fault, least-none, refused, kept}
-use Rattle.encoding.proofs.Memory.{within-limits, laid}
+use Rattle.encoding.proofs.Faults.{both-parts, least-none, not-large, number-is, refused, kept}
+use Rattle.encoding.proofs.Memory.{laid}
+use Rattle.encoding.proofs.Sets.{sound-of}
 use Rattle.encoding.proofs.Parts.{length-list, getD-list}
 use Rattle.reduction.specs.Rule.{mulAt}
 use Rattle.reduction.specs.Log.{pairs, logged, capacity}
 use Rattle.reduction.specs.Capacity.{Reduced, done, full, capped}
 use Rattle.reduction.specs.Twin.{through, columnC}
 use Rattle.reduction.proofs.Lists.{in-getD, in-left, in-right}
-use Rattle.reduction.proofs.Log.{length-pairs, logged-is}
+use Rattle.reduction.proofs.Log.{length-first, logged-is}
 use Rattle.reduction.proofs.Stop.{stops-is-capped}
 use Rattle.terms.specs.declared.reduce.Progress.{Progress}
 use Rattle.terms.specs.declared.Canonicalized.{Canonicalized}
 use Rattle.terms.specs.declared.Canonicalized.the-variants.{Done, Full, Refused}
-use Rattle.terms.specs.Refused.{listTests, reduceTests, imulTests}
+use Rattle.terms.specs.Refused.{listTests, reduceTests, Reducible}
 use Rattle.terms.specs.Leaves.{mulIn}
-use Rattle.terms.specs.Work.{Sound, Below, runOf, outcome, start, Does, BothIn, ListsIn}
+use Rattle.terms.specs.Work.{Below, runOf, outcome, start, Does, BothIn, ListsIn}
 use Rattle.terms.specs.Calls.{Multiplies, answerOf, rowsLeft, entriesLeft, Leaves, outcomeOf, wholeOutcome, upTo}
 use Rattle.terms.proofs.Scans.{asked-of}
 use Rattle.terms.proofs.RowView.{mul-view}
 
 -- ---- what no refusal leaves
 
-sound-of : (n : ℕ) (M : Mem) → fault (setTests n M) ≡ 0 → Valid n (wordsOf n) M → Sound n M
-sound-of n M e v = let l = within-limits n M e in record { valid = v; few-qubits = l .0; few-rows = l .1 }
-
-number-fault : (large : Bool) → cond large 6 0 ≡ fault (numberTests large)
-unfolding faultFrom
-number-fault true = refl
-number-fault false = refl
-
 module _ (n : ℕ) (M : Mem) {f : ℕ} (ef : f ≡ fault (setTests n M)) (v : f ≡ 0 → Valid n (wordsOf n) M) where
-  pub sound-told : f ≡ 0 → Sound n M
-  sound-told z = sound-of n M (sym ef ∙ z) (v z)
-
   pub imul-told : (a b : ℕ) (g r : ℕ) → g ≡ cond (tooLarge (count M) a || tooLarge (count M) b) 6 0 → r ≡ least f g
-      → (r ≡ fault (imulTests n M a b)) × (r ≡ 0 → BothIn n a b M)
+      → (r ≡ fault (rowsTests n M a b)) × (r ≡ 0 → BothIn n a b M)
   imul-told a b g r eg er =
-      let large = tooLarge (count M) a || tooLarge (count M) b in
-      let e : r ≡ fault (imulTests n M a b) = er ∙ ap₂ least ef (eg ∙ number-fault large) ∙ joined-fault (setTests n M) (numberTests large) in (
-        e,
+      let large = tooLarge (count M) a || tooLarge (count M) b in (
+        both-parts (setTests n M) (numberTests large) ef (eg ∙ number-is large) er,
         λ z.
             let p = least-none f g (sym er ∙ z) in
-            let q = none-of (tooLarge (count M) a) (tooLarge (count M) b) (large-none large (sym eg ∙ p .1)) in
-            record { sound = sound-told (p .0); a-in = leb-false (count M) a (q .0); b-in = leb-false (count M) b (q .1) },
+            let q = none-of (tooLarge (count M) a) (tooLarge (count M) b) (not-large 5 large (sym eg ∙ p .1)) in
+            record { sound = sound-of n M ef v (p .0); a-in = leb-false (count M) a (q .0); b-in = leb-false (count M) b (q .1) },
       )
-    where
-      large-none : (t : Bool) → _≡_ {A = ℕ} (cond t 6 0) 0 → t ≡ false
-      large-none true e = absurd (omega arith)
-      large-none false e = refl
 
   pub reduce-told : (order listed extra : List ℕ) (g r : ℕ) → g ≡ fault (listTests n (count M) order listed extra) → r ≡ least f g
-      → (r ≡ fault (reduceTests n M order listed extra)) × (r ≡ 0 → ListsIn n order listed extra M)
+      → (r ≡ fault (reduceTests n M order listed extra)) × (r ≡ 0 → Reducible n order listed extra M)
   reduce-told order listed extra g r eg er = (
-    er ∙ ap₂ least ef eg ∙ joined-fault (setTests n M) (listTests n (count M) order listed extra),
-    λ z.
-        let p = least-none f g (sym er ∙ z) in
-        let A = asked-of n (count M) order listed extra (sym eg ∙ p .1) in
-        record {
-          sound = sound-told (p .0);
-          order-in = λ i h. A .columns-in (getD order i 0) (in-getD order i h);
-          listed-in = λ i h. A .rows-in (getD listed i 0) (in-left (getD listed i 0) listed extra (in-getD listed i h));
-          extra-in = λ i h. A .rows-in (getD extra i 0) (in-right (getD extra i 0) listed extra (in-getD extra i h));
-        },
+    both-parts (setTests n M) (listTests n (count M) order listed extra) ef eg er,
+    λ z. let p = least-none f g (sym er ∙ z) in record { sound = sound-of n M ef v (p .0); asked = asked-of n (count M) order listed extra (sym eg ∙ p .1) },
   )
+
+-- the numbers of the lists by their places
+pub lists-in : {n : ℕ} {order listed extra : List ℕ} {M : Mem} → Reducible n order listed extra M → ListsIn n order listed extra M
+lists-in {n} {order} {listed} {extra} {M} r =
+    record {
+      sound = r .sound;
+      order-in = λ i h. r .asked .columns-in (getD order i 0) (in-getD order i h);
+      listed-in = λ i h. r .asked .rows-in (getD listed i 0) (in-left (getD listed i 0) listed extra (in-getD listed i h));
+      extra-in = λ i h. r .asked .rows-in (getD extra i 0) (in-right (getD extra i 0) listed extra (in-getD extra i h));
+    }
 
 -- ---- the product of two rows
 
 module _ (n a b : ℕ) (M : Mem) where
-  pub imul-refused : (f : ℕ) → f ≡ fault (imulTests n M a b) → (f ≡ 0 → ⊥) → Multiplies n a b M M (answer.Refused f)
+  pub imul-refused : (f : ℕ) → f ≡ fault (rowsTests n M a b) → (f ≡ 0 → ⊥) → Multiplies n a b M M (answer.Refused f)
   imul-refused f e ne =
       record {
         answer = refused f ne ∙ ap doneOr e;
         rows = kept f M (lay n (count M) (mulAt (mulRow n) (rowsOf n M) a b)) ne ∙ ap (λ k. leftOr k M (lay n (count M) (mulAt (mulRow n) (rowsOf n M) a b))) e;
       }
 
-  pub imul-done : {f : ℕ} {M′ : Mem} → f ≡ fault (imulTests n M a b) → f ≡ 0 → BothIn n a b M → M′ ≡ mulIn n a b M → Multiplies n a b M M′ answer.Done
+  pub imul-done : {f : ℕ} {M′ : Mem} → f ≡ fault (rowsTests n M a b) → f ≡ 0 → BothIn n a b M → M′ ≡ mulIn n a b M → Multiplies n a b M M′ answer.Done
   imul-done {f} {M′} e z h q =
       record {
         answer = ap doneOr (sym z ∙ e);
@@ -122,7 +109,7 @@ module _ (n : ℕ) (order listed extra : List ℕ) {M₀ : Mem} {log₀ : List �
   whole = L .result ∙ stops-is-capped (bitRow n) (mulRow n) (capacity log₀) listed extra order (rowsOf n M₀)
 
   there : length (pairs (take (s .entries + s .entries) log)) ≡ s .entries
-  there = length-pairs (s .entries) (take (s .entries + s .entries) log) (length-take-le (s .entries + s .entries) log (L .room))
+  there = length-first (s .entries) log (L .room)
 
   rows-laid : M ≡ lay n (count M₀) (rowsOf n M)
   rows-laid = laid n (wordsOf n) (L .keeps .sound .valid) refl ∙ ap (λ m. lay n m (rowsOf n M)) (L .keeps .e-len)

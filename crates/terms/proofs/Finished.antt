@@ -12,7 +12,7 @@ use Rattle.pauli.specs.Row.{Row, padMul, mulRow, bitRow}
 use Rattle.pauli.proofs.Lists.{length-each}
 use Rattle.pauli.proofs.RowLaws.{pad-mul}
 use Rattle.encoding.specs.Limits.{wordsOf}
-use Rattle.encoding.specs.Set.{Mem, count, rowsIn, rowsOf, lay, Valid}
+use Rattle.encoding.specs.Set.{Mem, count, rowsIn, rowsOf, lay, Valid, Sound}
 use Rattle.encoding.specs.Refusals.{fault, setTests, leftOr}
 use Rattle.encoding.proofs.Faults.{joined-fault, least-none}
 use Rattle.encoding.proofs.Memory.{Proper, row-count, count-lay, read-lay, valid-lay}
@@ -29,7 +29,6 @@ use Rattle.reduction.proofs.Stop.{run-fits, run-stops}
 use Rattle.reduction.proofs.Theorems.{log-replays, entries-good}
 use Rattle.terms.specs.declared.Canonicalized.the-variants.{Done}
 use Rattle.terms.specs.Refused.{listTests, reduceTests}
-use Rattle.terms.specs.Work.{Sound}
 use Rattle.terms.specs.Calls.{answerOf, rowsLeft, entriesLeft, outcomeOf, Reduces}
 use Rattle.terms.proofs.Scans.{asked-of}
 

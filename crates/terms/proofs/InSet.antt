@@ -16,7 +16,7 @@ use lib.Seq.{drop-drop}
 use Rattle.pauli.specs.Pauli.{Pauli, hasX, hasZ, mul, phases}
 use Rattle.encoding.specs.Limits.{maxQubits, maxRows, wordsOf}
 use Rattle.encoding.specs.Words.{unpack, pack}
-use Rattle.encoding.specs.Set.{part, row, Mem, mem, count}
+use Rattle.encoding.specs.Set.{part, row, Mem, mem, count, Sound}
 use Rattle.encoding.specs.Refusals.{faultFrom, fault, manyQubits, manyRows, badLengths, outTests}
 use Rattle.encoding.proofs.Scan.{none-of}
 use Rattle.encoding.proofs.Faults.{pass, lengths-fit}
@@ -27,7 +27,6 @@ use Rattle.products.specs.Leaves.{Outside, inside, ProductIn}
 use Rattle.products.proofs.InPlace.{inside-is}
 use Rattle.products.proofs.PartLaws.{part-put, outside-put}
 use Rattle.terms.specs.Leaves.{bothIn, putRow, mulIn, InRows, RowsMultiplied}
-use Rattle.terms.specs.Work.{Sound}
 
 -- ---- both rows lie inside
 

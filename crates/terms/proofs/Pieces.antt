@@ -14,7 +14,7 @@ use Rattle.reduction.specs.Rule.{Run, multiply, counted, first}
 use Rattle.reduction.specs.Log.{capacity}
 use Rattle.reduction.specs.Capacity.{Reduced, done, full}
 use Rattle.reduction.specs.Twin.{andThen, through, multiplyC, turnC, leadC, pivotC, columnByC, columnC}
-use Rattle.reduction.proofs.Cases.{cond-ind}
+use Rattle.pauli.proofs.Bools.{cond-ind}
 use Rattle.terms.specs.declared.reduce.Progress.{Progress}
 use Rattle.terms.specs.Leaves.{bitIn}
 use Rattle.terms.specs.Work.{Ready, runOf, outcome, Does}

@@ -9,25 +9,25 @@ use native.Mathlib.Omega.{arith}
 use borrow.Author.Tests.{eqb-true, eqb-false, lt-ltb, le-ltb}
 use lib.Dec.{eqb}
 use lib.ListN.{length, getD, take, drop, set, length-set, length-drop}
-use lib.Seq.{getD-take, getD-drop, take-take, getD-set-same, getD-set-other}
+use lib.Seq.{getD-take, getD-drop, getD-set-same, getD-set-other}
 use Rattle.pauli.specs.Pauli.{Pauli, _·_, mul, phases, ofBits, hasX, hasZ}
 use Rattle.pauli.specs.declared.PauliMatrix.the-variants.{I}
 use Rattle.pauli.specs.Row.{Row, padMul, mulRow, bitOf, bitRow}
-use Rattle.pauli.proofs.Lists.{each-take, length-each}
+use Rattle.pauli.proofs.Lists.{length-each}
 use Rattle.pauli.proofs.RowLaws.{row-eq, x-bit, z-bit, hasX-of, hasZ-of, pad-mul}
 use Rattle.encoding.specs.Limits.{wordsOf}
 use Rattle.encoding.specs.Words.{bitAt, unpack, qubits, pack}
-use Rattle.encoding.specs.Set.{row, Mem, mem, count, rowsIn, rowsOf, lay, Packed, Valid}
-use Rattle.encoding.proofs.Padding.{cut, pack-same, mul-drop, phases-take}
+use Rattle.encoding.specs.Set.{row, Mem, mem, count, rowsIn, rowsOf, lay, Packed, Valid, Sound}
+use Rattle.encoding.proofs.RowWords.{inWords, phase-is, product-is}
 use Rattle.encoding.proofs.Reading.{qubits-pack}
 use Rattle.encoding.proofs.Qubits.{qubit-at}
-use Rattle.encoding.proofs.Memory.{mem-eq, x-row, z-row, row-count, clean, laid}
+use Rattle.encoding.proofs.Memory.{mem-eq, x-row, z-row, row-count, laid}
 use Rattle.products.specs.Leaves.{Multiplied}
 use Rattle.products.proofs.PartLaws.{row-other}
 use Rattle.reduction.specs.Rule.{mulAt, first}
-use Rattle.reduction.proofs.Cases.{cond-ind}
+use Rattle.pauli.proofs.Bools.{cond-ind}
 use Rattle.terms.specs.Leaves.{columnOf, bitIn, firstPlace, mulIn}
-use Rattle.terms.specs.Work.{Sound, Keeps, Below}
+use Rattle.terms.specs.Work.{Keeps, Below}
 use Rattle.terms.proofs.Columns.{bit-within}
 use Rattle.terms.proofs.InSet.{shape-is, mul-in-is}
 
@@ -116,31 +116,24 @@ module _ (n w : ℕ) {M : Mem} (v : Valid n w M) (a b : ℕ) (ha : a < count M) 
   qs : ℕ → List Pauli
   qs r = qubits n (row w r (M .xs)) (row w r (M .zs))
 
-  -- the product of the whole words is that of the n qubits
-  cut-product : (f : Pauli → Bool) → f I ≡ false
-      → pack f w (mul (unpack (row w a (M .xs)) (row w a (M .zs))) (unpack (row w b (M .xs)) (row w b (M .zs)))) ≡ pack f w (mul (qs a) (qs b))
+  long : length (padMul (qs a) (qs b)) ≡ n
   unfolding qs
-  cut-product f f0 =
-      let A = unpack (row w a (M .xs)) (row w a (M .zs)) in
-      let B = unpack (row w b (M .xs)) (row w b (M .zs)) in
-      sym (pack-same f f0 w (take n (mul A B)) (mul A B) (cut n (mul A B) (mul-drop n A B (clean n w v a ha) (clean n w v b hb)))) ∙ ap (pack f w) (each-take _·_ n A B)
-
-  cut-all : (r : ℕ) → take n (qs r) ≡ qs r
-  unfolding qs
-  cut-all r = take-take n n (unpack (row w r (M .xs)) (row w r (M .zs))) (omega arith)
+  long =
+      let e = row-count n w v b hb ∙ sym (row-count n w v a ha) in
+      ap length (pad-mul (qs a) (qs b) e) ∙ length-each _·_ (qs a) (qs b) e ∙ row-count n w v a ha
 
   module _ {xs′ zs′ : List ℕ} {e : ℕ} (q : Multiplied w (a * w) (b * w) (M .xs) (M .zs) xs′ zs′ e) where
-    x-new : row w a xs′ ≡ pack hasX w (mul (qs a) (qs b))
-    x-new = q .here .x-words ∙ ap (λ k. pack hasX k (mul (unpack (row w a (M .xs)) (row w a (M .zs))) (unpack (row w b (M .xs)) (row w b (M .zs))))) (x-row n w v a ha) ∙ cut-product hasX refl
+    -- the product of the whole words is that of the rows
+    x-new : row w a xs′ ≡ pack hasX w (padMul (qs a) (qs b))
+    unfolding qs rowsIn
+    x-new = q .here .x-words ∙ ap (λ k. pack hasX k (mul (inWords w M a) (inWords w M b))) (x-row n w v a ha) ∙ product-is n w v M v hasX refl a b ha hb
 
-    z-new : row w a zs′ ≡ pack hasZ w (mul (qs a) (qs b))
-    z-new = q .here .z-words ∙ ap (λ k. pack hasZ k (mul (unpack (row w a (M .xs)) (row w a (M .zs))) (unpack (row w b (M .xs)) (row w b (M .zs))))) (x-row n w v a ha) ∙ cut-product hasZ refl
+    z-new : row w a zs′ ≡ pack hasZ w (padMul (qs a) (qs b))
+    unfolding qs rowsIn
+    z-new = q .here .z-words ∙ ap (λ k. pack hasZ k (mul (inWords w M a) (inWords w M b))) (x-row n w v a ha) ∙ product-is n w v M v hasZ refl a b ha hb
 
-    new : qubits n (row w a xs′) (row w a zs′) ≡ mul (qs a) (qs b)
-    unfolding qs
-    new =
-        ap₂ (qubits n) x-new z-new
-        ∙ qubits-pack n w (mul (qs a) (qs b)) (length-each _·_ (qs a) (qs b) (row-count n w v b hb ∙ sym (row-count n w v a ha)) ∙ row-count n w v a ha) (v .wide)
+    new : qubits n (row w a xs′) (row w a zs′) ≡ padMul (qs a) (qs b)
+    new = ap₂ (qubits n) x-new z-new ∙ qubits-pack n w (padMul (qs a) (qs b)) long (v .wide)
 
     packed-new : Packed n w (row w a xs′) (row w a zs′)
     packed-new = record { x-is = x-new ∙ ap (pack hasX w) (sym new); z-is = z-new ∙ ap (pack hasZ w) (sym new) }
@@ -149,11 +142,8 @@ module _ (n w : ℕ) {M : Mem} (v : Valid n w M) (a b : ℕ) (ha : a < count M) 
     value = (getD (M .es) a 0 + getD (M .es) b 0 + e) % 4
 
     exponent : value ≡ (getD (M .es) a 0 + getD (M .es) b 0 + phases (take n (qs a)) (take n (qs b))) % 4
-    unfolding qs value
-    exponent =
-        let A = unpack (row w a (M .xs)) (row w a (M .zs)) in
-        let B = unpack (row w b (M .xs)) (row w b (M .zs)) in
-        omega (arith, q .here .exponent, phases-take n A B (clean n w v a ha), ap₂ phases (cut-all a) (cut-all b))
+    unfolding qs value rowsIn
+    exponent = omega (arith, q .here .exponent, phase-is n w v M a b ha)
 
     M′ : Mem
     M′ = mem xs′ zs′ (set (M .es) a value)
@@ -186,7 +176,7 @@ module _ (n w : ℕ) {M : Mem} (v : Valid n w M) (a b : ℕ) (ha : a < count M) 
         fun-ext (λ k. cond-ind (λ (s : Row). _≡_ {A = Row} (record { ps = qubits n (row w k xs′) (row w k zs′); p = getD es′ k 0 }) s) (eqb k a)
         (λ t. subst (λ (j : ℕ). _≡_ {A = Row} (record { ps = qubits n (row w j xs′) (row w j zs′); p = getD es′ j 0 })
         (record { ps = padMul (qs a) (qs b); p = (getD (M .es) a 0 + getD (M .es) b 0 + phases (take n (qs a)) (take n (qs b))) % 4 })) (sym (eqb-true k a t))
-        (row-eq (new ∙ sym (pad-mul (qs a) (qs b) (row-count n w v b hb ∙ sym (row-count n w v a ha)))) (getD-set-same (M .es) a value 0 ha ∙ exponent)))
+        (row-eq new (getD-set-same (M .es) a value 0 ha ∙ exponent)))
         (λ t.
         let ne = eqb-false k a t in
         row-eq (ap₂ (qubits n) (row-other w k a (q .x-rest) ne) (row-other w k a (q .z-rest) ne)) (getD-set-other (M .es) a k value 0 ne)))

@@ -9,15 +9,15 @@ use lib.ListN.{length, getD, take, drop, set, length-set}
 use lib.Seq.{take-suc-set, length-take-le, getD-set-other, drop-cons, drop-length}
 use borrow.Author.Tests.{lt-ltb, le-ltb}
 use Rattle.pauli.specs.Row.{Row, mulRow}
-use Rattle.encoding.specs.Set.{Mem, count, rowsOf}
+use Rattle.encoding.specs.Set.{Mem, count, rowsOf, Sound}
 use Rattle.reduction.specs.Rule.{Entry, Run, mulAt, multiply}
 use Rattle.reduction.specs.Log.{pairs, capacity}
 use Rattle.reduction.specs.Capacity.{Reduced, done, full}
 use Rattle.reduction.specs.Twin.{andThen, through, multiplyC}
-use Rattle.reduction.proofs.Log.{length-pairs, pairs-more}
+use Rattle.reduction.proofs.Log.{length-first, pairs-more}
 use Rattle.terms.specs.declared.reduce.Progress.{Progress}
 use Rattle.terms.specs.Leaves.{mulIn}
-use Rattle.terms.specs.Work.{Sound, Keeps, Ready, runOf, outcome, Does}
+use Rattle.terms.specs.Work.{Keeps, Ready, runOf, outcome, Does}
 use Rattle.terms.proofs.RowView.{Held, mul-view}
 
 -- ---- memory
@@ -94,7 +94,7 @@ run-eq t p q = λ i. record { rows = p i; log = q i; t = t }
 
 module _ {n : ℕ} {M : Mem} {log : List ℕ} {s : Progress} (ready : Ready n M log s) (a b : ℕ) where
   there : length (pairs (take (s .entries + s .entries) log)) ≡ s .entries
-  there = length-pairs (s .entries) (take (s .entries + s .entries) log) (length-take-le (s .entries + s .entries) log (ready .room))
+  there = length-first (s .entries) log (ready .room)
 
   pub put-full : capacity log ≤ s .entries → Does n (multiplyC (mulRow n) (capacity log) a b) M log s M log (record { full = true; entries = s .entries; t = s .t })
   unfolding multiplyC runOf outcome

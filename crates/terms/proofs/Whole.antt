@@ -13,7 +13,7 @@ use Rattle.encoding.proofs.Faults.{joined-fault, least-zero}
 use Rattle.encoding.proofs.Parts.{length-list, getD-list}
 use Rattle.reduction.specs.Lists.{In, has, distinct}
 use Rattle.reduction.specs.Demand.{NamesAll}
-use Rattle.reduction.proofs.Cases.{not-so, and-both}
+use Rattle.pauli.proofs.Bools.{not-so, and-both}
 use Rattle.reduction.proofs.Lists.{has→in, in-getD, place-of}
 use Rattle.terms.specs.declared.Canonicalized.{Canonicalized}
 use Rattle.terms.specs.Refused.{listTests, reduceTests}

@@ -6,20 +6,20 @@ use mathlib.Core.List.{List, []}
 use lib.ListN.{length}
 use Rattle.pauli.specs.Row.{Row, mulRow, bitRow}
 use Rattle.encoding.specs.Set.{Mem, count, rowsOf, list, lay}
-use Rattle.encoding.specs.Refusals.{fault, setTests, doneOr, leftOr}
+use Rattle.encoding.specs.Refusals.{fault, setTests, doneOr, leftOr, rowsTests}
 use Rattle.encoding.specs.declared.Answer.{Answer}
 use Rattle.reduction.specs.Rule.{Entry, mulAt}
 use Rattle.reduction.specs.Log.{logged, capacity}
 use Rattle.reduction.specs.Capacity.{Reduced, done, full, capped}
-use Rattle.terms.specs.Refused.{reduceTests, imulTests}
+use Rattle.terms.specs.Refused.{reduceTests}
 use Rattle.terms.specs.declared.Canonicalized.{Canonicalized}
 use Rattle.terms.specs.declared.Canonicalized.the-variants.{Done, Full, Refused}
 
 -- ---- row a is multiplied by row b, in place
 
 pub record Multiplies (n a b : ℕ) (M M′ : Mem) (r : Answer) : Type 0 where
-  pub answer : r ≡ doneOr (fault (imulTests n M a b))
-  pub rows : M′ ≡ leftOr (fault (imulTests n M a b)) M (lay n (count M) (mulAt (mulRow n) (rowsOf n M) a b))
+  pub answer : r ≡ doneOr (fault (rowsTests n M a b))
+  pub rows : M′ ≡ leftOr (fault (rowsTests n M a b)) M (lay n (count M) (mulAt (mulRow n) (rowsOf n M) a b))
 
 -- ---- reduction with a log
 

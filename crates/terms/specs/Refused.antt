@@ -2,9 +2,10 @@
 use mathlib.Core.Bool.{Bool, false, not, _||_}
 use mathlib.Core.List.{List, [], _∷_}
 use Prim.Native.Nat.{ℕ, _+_}
-use Rattle.encoding.specs.Set.{Mem, count}
-use Rattle.encoding.specs.Refusals.{some, tooLarge, joined, setTests, numberTests}
+use Rattle.encoding.specs.Set.{Mem, count, Sound}
+use Rattle.encoding.specs.Refusals.{some, tooLarge, joined, setTests}
 use Rattle.reduction.specs.Lists.{distinct}
+use Rattle.reduction.specs.Demand.{Asked}
 
 -- 6: a column number of 2n or above in the order, or a row number of m or above in a list
 abbrev pub largeNumber : ℕ → ℕ → List ℕ → List ℕ → List ℕ → Bool
@@ -21,6 +22,7 @@ listTests n m order listed extra = false ∷ false ∷ false ∷ false ∷ false
 abbrev pub reduceTests : ℕ → Mem → List ℕ → List ℕ → List ℕ → List Bool
 reduceTests n M order listed extra = joined (setTests n M) (listTests n (count M) order listed extra)
 
--- 1 to 6: a set that is read, two row numbers
-abbrev pub imulTests : ℕ → Mem → ℕ → ℕ → List Bool
-imulTests n M a b = joined (setTests n M) (numberTests (tooLarge (count M) a || tooLarge (count M) b))
+-- What they leave: a row set within the limits, listed rows each once, numbers below their limits.
+pub record Reducible (n : ℕ) (order listed extra : List ℕ) (M : Mem) : Type 0 where
+  pub sound : Sound n M
+  pub asked : Asked (n + n) (count M) order listed extra

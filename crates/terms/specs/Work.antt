@@ -6,18 +6,11 @@ use mathlib.Core.Bool.{Bool, true, false}
 use mathlib.Core.List.{List}
 use lib.ListN.{length, getD, take}
 use Rattle.pauli.specs.Row.{Row}
-use Rattle.encoding.specs.Limits.{maxQubits, maxRows, wordsOf}
-use Rattle.encoding.specs.Set.{Mem, count, rowsOf, Valid}
+use Rattle.encoding.specs.Set.{Mem, count, rowsOf, Sound}
 use Rattle.reduction.specs.Rule.{Run}
 use Rattle.reduction.specs.Log.{pairs}
 use Rattle.reduction.specs.Capacity.{Reduced, done, full}
 use Rattle.terms.specs.declared.reduce.Progress.{Progress}
-
--- a row set within the limits
-pub record Sound (n : ℕ) (M : Mem) : Type 0 where
-  pub valid : Valid n (wordsOf n) M
-  pub few-qubits : n ≤ maxQubits
-  pub few-rows : count M ≤ maxRows
 
 -- the memory is a row set still, and as long as it was
 pub record Keeps (n : ℕ) (M₀ M : Mem) : Type 0 where

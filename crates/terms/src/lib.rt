@@ -2,17 +2,17 @@
 ghost use mathlib.Core.Path.{_≡_};
 ghost use Prim.Native.Nat.{_+_, _≤_};
 ghost use lib.ListN.{length};
-ghost use Rattle.encoding.specs.Set.{mem};
+ghost use Rattle.encoding.specs.Set.{mem, Sound};
 ghost use Rattle.encoding.specs.Limits.{maxQubits, maxRows};
-ghost use Rattle.encoding.specs.Refusals.{fault};
-ghost use Rattle.terms.specs.Refused.{imulTests, reduceTests};
-ghost use Rattle.terms.specs.Work.{Sound, BothIn, ListsIn};
+ghost use Rattle.encoding.specs.Refusals.{fault, rowsTests};
+ghost use Rattle.terms.specs.Refused.{reduceTests, Reducible};
+ghost use Rattle.terms.specs.Work.{BothIn, ListsIn};
 ghost use Rattle.terms.specs.Calls.{Multiplies, Leaves, outcomeOf, Reduces, wholeOutcome, ReducesAll, upTo};
 use encoding::Answer;
 use encoding::MAX_ROWS;
 use pauli::RowNumber;
 
-pub mod lists;
+mod lists;
 mod reduce;
 pub mod rows;
 
@@ -28,7 +28,7 @@ pub enum Canonicalized {
 
 // The first number of the table that fits a set and two row numbers, or 0.
 fn imul_fault(n: usize, x: &[u64], z: &[u64], phases: &[u8], a: usize, b: usize) -> u8
-    ensures { λ r. ⌜ r ≡ fault (imulTests n (mem (now (x .entry)) (now (z .entry)) (now (phases .entry))) a b) ⌝ }
+    ensures { λ r. ⌜ r ≡ fault (rowsTests n (mem (now (x .entry)) (now (z .entry)) (now (phases .entry))) a b) ⌝ }
     ensures both { λ r. ⌜ (r ≡ 0 → BothIn n a b (mem (now (x .entry)) (now (z .entry)) (now (phases .entry)))) ⌝ }
 {
     let m = phases.len();
@@ -57,7 +57,7 @@ pub fn imul(
 }
 
 // The first number of the table that fits a set, an order and two lists, or 0.
-fn reduce_fault(
+pub fn reduce_fault(
     n: usize,
     x: &[u64],
     z: &[u64],
@@ -67,7 +67,7 @@ fn reduce_fault(
     extra: &[u16],
 ) -> u8
     ensures { λ r. ⌜ r ≡ fault (reduceTests n (mem (now (x .entry)) (now (z .entry)) (now (phases .entry))) (now (order .entry)) (now (listed .entry)) (now (extra .entry))) ⌝ }
-    ensures all { λ r. ⌜ (r ≡ 0 → ListsIn n (now (order .entry)) (now (listed .entry)) (now (extra .entry)) (mem (now (x .entry)) (now (z .entry)) (now (phases .entry)))) ⌝ }
+    ensures passed { λ r. ⌜ (r ≡ 0 → Reducible n (now (order .entry)) (now (listed .entry)) (now (extra .entry)) (mem (now (x .entry)) (now (z .entry)) (now (phases .entry)))) ⌝ }
 {
     let f = encoding::set_fault(n, x, z, phases);
     encoding::smaller(f, lists::lists_fault(n, phases.len(), order, listed, extra))

@@ -6,9 +6,9 @@ use borrow.Author.Needs.{needs}
 use lib.ListN.{length}
 use Rattle.pauli.specs.Rows.{central}
 use Rattle.encoding.specs.Set.{mem, rowsOf, count}
+use Rattle.encoding.proofs.Faults.{refusing, passing}
 use Rattle.cmpnt_list.specs.Calls.{belongsToCentralizer, truthOr}
 use Rattle.cmpnt_list.specs.declared.Truth.the-variants as truth
-use Rattle.cmpnt_list.proofs.Tests.{refusing, passing}
 use Rattle.cmpnt_list.proofs.belongs_to_centralizer.Statement.{statement}
 use Rattle.cmpnt_list.proofs.belongs_to_centralizer.Tie as tie
 

@@ -2,7 +2,8 @@
 use borrow.Author.Needs.{needs}
 use Rattle.encoding.specs.Refusals.{setTests}
 use Rattle.encoding.specs.Set.{mem}
-use Rattle.cmpnt_list.proofs.Tests.{both-parts, both-ready}
+use Rattle.encoding.proofs.Faults.{both-parts}
+use Rattle.cmpnt_list.proofs.Tests.{both-ready}
 use Rattle.cmpnt_list.proofs.both_fault.Statement.{statement}
 use Rattle.cmpnt_list.proofs.both_fault.Tie as tie
 

@@ -7,8 +7,8 @@ use borrow.Author.Tests.{not-true, not-false}
 use borrow.Author.Needs.{needs}
 use lib.ListN.{length}
 use Rattle.pauli.specs.Rows.{commute, everyBelow, central}
+use Rattle.pauli.proofs.Every.{every-none, every-more, every-not}
 use Rattle.encoding.specs.Set.{mem, rowsOf}
-use Rattle.cmpnt_list.proofs.Every.{every-none, every-more, every-not}
 use Rattle.cmpnt_list.proofs.central_row.Statement.{statement}
 use Rattle.cmpnt_list.proofs.central_row.Tie as tie
 

@@ -3,11 +3,10 @@ use mathlib.Core.Path.{refl, sym, _∙_}
 use Prim.Native.Nat.{ℕ}
 use borrow.Author.Needs.{needs}
 use Rattle.encoding.specs.declared.Answer.the-variants.{Refused}
-use Rattle.encoding.specs.Refusals.{doneOr, leftOr, joined, setTests, outTests}
-use Rattle.encoding.proofs.Faults.{least-none}
+use Rattle.encoding.specs.Refusals.{doneOr, leftOr, joined, setTests, outTests, differentRows}
+use Rattle.encoding.proofs.Faults.{least-none, refusing, passing, both-parts}
 use Rattle.encoding.specs.Set.{mem, count, lay}
-use Rattle.cmpnt_list.specs.Calls.{pairs, differentRows}
-use Rattle.cmpnt_list.proofs.Tests.{refusing, passing, both-parts}
+use Rattle.cmpnt_list.specs.Calls.{pairs}
 use Rattle.cmpnt_list.proofs.cmpnts_mul_pairwise.Statement.{statement}
 use Rattle.cmpnt_list.proofs.cmpnts_mul_pairwise.Tie as tie
 

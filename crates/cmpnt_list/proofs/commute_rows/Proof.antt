@@ -7,7 +7,8 @@ use lib.Dec.{eqb}
 use Rattle.pauli.specs.Pauli.{Pauli, phases, clashes}
 use Rattle.encoding.specs.Limits.{wordsOf}
 use Rattle.encoding.specs.Set.{mem}
-use Rattle.cmpnt_list.proofs.Views.{words-at, commute-is}
+use Rattle.encoding.proofs.RowWords.{commute-is}
+use Rattle.cmpnt_list.proofs.Views.{words-at}
 use Rattle.cmpnt_list.proofs.commute_rows.Statement.{statement}
 use Rattle.cmpnt_list.proofs.commute_rows.Tie as tie
 

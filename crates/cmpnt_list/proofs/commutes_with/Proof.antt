@@ -5,9 +5,10 @@ use borrow.Author.Needs.{needs}
 use lib.ListN.{length}
 use Rattle.pauli.specs.Rows.{commute}
 use Rattle.encoding.specs.Set.{mem, rowsOf}
+use Rattle.encoding.proofs.Faults.{refusing, passing}
 use Rattle.cmpnt_list.specs.Calls.{commutesWith, truthOr}
 use Rattle.cmpnt_list.specs.declared.Truth.the-variants as truth
-use Rattle.cmpnt_list.proofs.Tests.{refusing, passing, both-small}
+use Rattle.cmpnt_list.proofs.Tests.{both-small}
 use Rattle.cmpnt_list.proofs.commutes_with.Statement.{statement}
 use Rattle.cmpnt_list.proofs.commutes_with.Tie as tie
 

@@ -5,8 +5,8 @@ use borrow.Author.Needs.{needs}
 use Rattle.encoding.specs.declared.Answer.the-variants.{Refused}
 use Rattle.encoding.specs.Refusals.{doneOr, leftOr}
 use Rattle.encoding.specs.Set.{mem, count}
+use Rattle.encoding.proofs.Faults.{refusing, passing}
 use Rattle.cmpnt_list.specs.Calls.{laidMatrix, commuting}
-use Rattle.cmpnt_list.proofs.Tests.{refusing, passing}
 use Rattle.cmpnt_list.proofs.compatibility_matrix.Statement.{statement}
 use Rattle.cmpnt_list.proofs.compatibility_matrix.Tie as tie
 

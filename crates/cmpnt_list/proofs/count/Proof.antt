@@ -6,9 +6,9 @@ use borrow.Author.Needs.{needs}
 use lib.ListN.{length}
 use Rattle.pauli.specs.Rows.{countOf}
 use Rattle.encoding.specs.Set.{mem, rowsOf}
+use Rattle.encoding.proofs.Faults.{refusing, passing}
 use Rattle.cmpnt_list.specs.Calls.{countIn, tallyOr}
 use Rattle.cmpnt_list.specs.declared.Tally.the-variants as tally
-use Rattle.cmpnt_list.proofs.Tests.{refusing, passing}
 use Rattle.cmpnt_list.proofs.count.Statement.{statement}
 use Rattle.cmpnt_list.proofs.count.Tie as tie
 

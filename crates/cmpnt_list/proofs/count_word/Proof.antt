@@ -13,33 +13,33 @@ use Rattle.cmpnt_list.proofs.count_word.Tie as tie
 enum-told : tie.Need-enum-told
 enum-told c = search needs
 
-ones-in-requires : tie.Need-ones-in-requires
-ones-in-requires c κs = search needs
+count-requires : tie.Need-count-requires
+count-requires c κs = search needs
 
 enum-told-2 : tie.Need-enum-told-2
 enum-told-2 c = search needs
 
-ones-in-requires-2 : tie.Need-ones-in-requires-2
-ones-in-requires-2 c κs = search needs
+count-requires-2 : tie.Need-count-requires-2
+count-requires-2 c κs = search needs
 
 enum-told-3 : tie.Need-enum-told-3
 enum-told-3 c = search needs
 
-ones-in-requires-3 : tie.Need-ones-in-requires-3
-ones-in-requires-3 c κs = search needs
+count-requires-3 : tie.Need-count-requires-3
+count-requires-3 c κs = search needs
 
 enum-told-4 : tie.Need-enum-told-4
 enum-told-4 c = search needs
 
-ones-in-requires-4 : tie.Need-ones-in-requires-4
-ones-in-requires-4 c κs = search needs
+count-requires-4 : tie.Need-count-requires-4
+count-requires-4 c κs = search needs
 
 returns : tie.Need-returns
 returns c =
     let s = c .before .before .before in
     let x = s .args .x in
     let z = s .args .z in
-    let r = c .ones-in in
+    let r = c .count in
     let q : r .result ≡ masked I (word 64 x z) = omega (arith, word-count I tt (s .fits .x .fits) (s .fits .z .fits), r .ensures .0) in
     (q ∙ ap (λ (p : Pauli). masked p (word 64 x z)) (sym (c .before .enum-told .given .1)), r .ensures .1)
 
@@ -48,7 +48,7 @@ returns-2 c =
     let s = c .before .before .before in
     let x = s .args .x in
     let z = s .args .z in
-    let r = c .ones-in2 in
+    let r = c .count2 in
     let q : r .result ≡ masked X (word 64 x z) = omega (arith, word-count X tt (s .fits .x .fits) (s .fits .z .fits), r .ensures .0) in
     (q ∙ ap (λ (p : Pauli). masked p (word 64 x z)) (sym (c .before .enum-told2 .given .1)), r .ensures .1)
 
@@ -57,7 +57,7 @@ returns-3 c =
     let s = c .before .before .before in
     let x = s .args .x in
     let z = s .args .z in
-    let r = c .ones-in3 in
+    let r = c .count3 in
     let q : r .result ≡ masked Y (word 64 x z) = omega (arith, word-count Y tt (s .fits .x .fits) (s .fits .z .fits), r .ensures .0) in
     (q ∙ ap (λ (p : Pauli). masked p (word 64 x z)) (sym (c .before .enum-told3 .given .1)), r .ensures .1)
 
@@ -66,7 +66,7 @@ returns-4 c =
     let s = c .before .before .before in
     let x = s .args .x in
     let z = s .args .z in
-    let r = c .ones-in4 in
+    let r = c .count4 in
     let q : r .result ≡ masked Z (word 64 x z) = omega (arith, word-count Z tt (s .fits .x .fits) (s .fits .z .fits), r .ensures .0) in
     (q ∙ ap (λ (p : Pauli). masked p (word 64 x z)) (sym (c .before .enum-told4 .given .1)), r .ensures .1)
 
@@ -75,13 +75,13 @@ count-word-spec =
     tie.close
     (tie.spec
     enum-told
-    ones-in-requires
+    count-requires
     enum-told-2
-    ones-in-requires-2
+    count-requires-2
     enum-told-3
-    ones-in-requires-3
+    count-requires-3
     enum-told-4
-    ones-in-requires-4
+    count-requires-4
     returns
     returns-2
     returns-3

@@ -5,9 +5,10 @@ use borrow.Author.Needs.{needs}
 use lib.ListN.{length, getD}
 use Rattle.pauli.specs.declared.PauliMatrix.the-variants.{I}
 use Rattle.encoding.specs.Set.{mem, rowsOf}
+use Rattle.encoding.proofs.Faults.{refusing, passing}
 use Rattle.cmpnt_list.specs.declared.Got.the-variants as got
 use Rattle.cmpnt_list.specs.Calls.{getQubit, gotOr}
-use Rattle.cmpnt_list.proofs.Tests.{refusing, passing, both-small}
+use Rattle.cmpnt_list.proofs.Tests.{both-small}
 use Rattle.cmpnt_list.proofs.get_qubit.Statement.{statement}
 use Rattle.cmpnt_list.proofs.get_qubit.Tie as tie
 

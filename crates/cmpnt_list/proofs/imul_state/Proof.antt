@@ -5,12 +5,11 @@ use borrow.Author.Tests.{leb-false}
 use borrow.Author.Needs.{needs}
 use lib.ListN.{length}
 use Rattle.pauli.specs.Rows.{actOn, actPhaseOn}
-use Rattle.encoding.proofs.Faults.{least-none}
+use Rattle.encoding.proofs.Faults.{least-none, refusing, passing, both-parts}
 use Rattle.encoding.specs.Refusals.{leftOr, joined, setTests, numberTests, stateTests, tooLarge}
-use Rattle.encoding.specs.Set.{mem, rowsOf, count}
-use Rattle.cmpnt_list.specs.Calls.{phaseOr, stateOf, layState}
+use Rattle.encoding.specs.Set.{mem, rowsOf, count, stateOf, layState}
+use Rattle.cmpnt_list.specs.Calls.{phaseOr}
 use Rattle.cmpnt_list.specs.declared.Phase.the-variants as phase
-use Rattle.cmpnt_list.proofs.Tests.{refusing, passing, both-parts}
 use Rattle.cmpnt_list.proofs.imul_state.Statement.{statement}
 use Rattle.cmpnt_list.proofs.imul_state.Tie as tie
 

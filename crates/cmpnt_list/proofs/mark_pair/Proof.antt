@@ -2,8 +2,9 @@
 use mathlib.Core.Path.{sym, _∙_}
 use borrow.Author.Needs.{needs}
 use Rattle.encoding.specs.Set.{mem, rowsOf}
+use Rattle.pauli.proofs.RowTests.{commute-sym}
 use Rattle.cmpnt_list.specs.Calls.{commuting}
-use Rattle.cmpnt_list.proofs.Filling.{commute-sym, pair-yes, pair-no}
+use Rattle.cmpnt_list.proofs.Filling.{pair-yes, pair-no}
 use Rattle.cmpnt_list.proofs.mark_pair.Statement.{statement}
 use Rattle.cmpnt_list.proofs.mark_pair.Tie as tie
 

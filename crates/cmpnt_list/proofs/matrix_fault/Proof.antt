@@ -2,8 +2,9 @@
 use borrow.Author.Needs.{needs}
 use Rattle.encoding.specs.Refusals.{setTests}
 use Rattle.encoding.specs.Set.{mem, count}
+use Rattle.encoding.proofs.Faults.{both-parts}
 use Rattle.cmpnt_list.specs.Calls.{matrixTests}
-use Rattle.cmpnt_list.proofs.Tests.{both-parts, matrix-asked}
+use Rattle.cmpnt_list.proofs.Tests.{matrix-asked}
 use Rattle.cmpnt_list.proofs.matrix_fault.Statement.{statement}
 use Rattle.cmpnt_list.proofs.matrix_fault.Tie as tie
 

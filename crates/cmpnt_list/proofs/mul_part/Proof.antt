@@ -1,6 +1,6 @@
 -- `cmpnt_list::mul_part` meets its contract. Assumes nothing.
 use borrow.Author.Needs.{needs}
-use Rattle.cmpnt_list.proofs.Pairing.{part-product}
+use Rattle.products.proofs.PartLaws.{part-product}
 use Rattle.cmpnt_list.proofs.mul_part.Statement.{statement}
 use Rattle.cmpnt_list.proofs.mul_part.Tie as tie
 

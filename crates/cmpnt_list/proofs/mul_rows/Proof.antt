@@ -6,8 +6,8 @@ use borrow.Author.Needs.{needs}
 use lib.ListN.{length}
 use Rattle.encoding.specs.Limits.{wordsOf, maxRows}
 use Rattle.encoding.specs.Set.{mem}
+use Rattle.encoding.proofs.Sets.{Holds, laid-by}
 use Rattle.cmpnt_list.specs.Calls.{pairs}
-use Rattle.cmpnt_list.proofs.Views.{Holds, laid-by}
 use Rattle.cmpnt_list.proofs.Pairing.{holds-none, holds-more, all-long}
 use Rattle.cmpnt_list.proofs.mul_rows.Statement.{statement}
 use Rattle.cmpnt_list.proofs.mul_rows.Tie as tie

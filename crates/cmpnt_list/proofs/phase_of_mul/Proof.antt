@@ -5,9 +5,10 @@ use borrow.Author.Needs.{needs}
 use lib.ListN.{length}
 use Rattle.pauli.specs.Rows.{phaseOf}
 use Rattle.encoding.specs.Set.{mem, rowsOf}
+use Rattle.encoding.proofs.Faults.{refusing, passing}
 use Rattle.cmpnt_list.specs.Calls.{phaseOfMul, phaseOr}
 use Rattle.cmpnt_list.specs.declared.Phase.the-variants as phase
-use Rattle.cmpnt_list.proofs.Tests.{refusing, passing, both-small}
+use Rattle.cmpnt_list.proofs.Tests.{both-small}
 use Rattle.cmpnt_list.proofs.phase_of_mul.Statement.{statement}
 use Rattle.cmpnt_list.proofs.phase_of_mul.Tie as tie
 

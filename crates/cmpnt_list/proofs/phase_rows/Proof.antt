@@ -6,7 +6,8 @@ use borrow.Author.Needs.{needs}
 use Rattle.pauli.specs.Pauli.{Pauli, phases}
 use Rattle.encoding.specs.Limits.{wordsOf}
 use Rattle.encoding.specs.Set.{mem}
-use Rattle.cmpnt_list.proofs.Views.{words-at, phase-is}
+use Rattle.encoding.proofs.RowWords.{phase-is}
+use Rattle.cmpnt_list.proofs.Views.{words-at}
 use Rattle.cmpnt_list.proofs.phase_rows.Statement.{statement}
 use Rattle.cmpnt_list.proofs.phase_rows.Tie as tie
 

@@ -7,7 +7,8 @@ use Rattle.pauli.specs.declared.PauliMatrix.the-variants.{I}
 use Rattle.pauli.specs.Pauli.{Pauli}
 use Rattle.encoding.specs.Limits.{wordsOf}
 use Rattle.encoding.specs.Set.{mem}
-use Rattle.cmpnt_list.proofs.Views.{words-at, qubit-is}
+use Rattle.encoding.proofs.RowWords.{qubit-is}
+use Rattle.cmpnt_list.proofs.Views.{words-at}
 use Rattle.cmpnt_list.proofs.read_qubit.Statement.{statement}
 use Rattle.cmpnt_list.proofs.read_qubit.Tie as tie
 

@@ -7,7 +7,8 @@ use Rattle.pauli.specs.Rows.{withQubit}
 use Rattle.encoding.specs.declared.Answer.the-variants.{Refused}
 use Rattle.encoding.specs.Refusals.{doneOr, leftOr}
 use Rattle.encoding.specs.Set.{mem, rowsOf, count, lay}
-use Rattle.cmpnt_list.proofs.Tests.{refusing, passing, both-small}
+use Rattle.encoding.proofs.Faults.{refusing, passing}
+use Rattle.cmpnt_list.proofs.Tests.{both-small}
 use Rattle.cmpnt_list.proofs.set_qubit.Statement.{statement}
 use Rattle.cmpnt_list.proofs.set_qubit.Tie as tie
 

@@ -1,10 +1,10 @@
 -- `cmpnt_list::third_fault` meets its contract. Assumes nothing.
 use mathlib.Core.Path.{_∙_}
 use borrow.Author.Needs.{needs}
-use Rattle.encoding.specs.Refusals.{outTests}
+use Rattle.encoding.specs.Refusals.{outTests, differentRows}
 use Rattle.encoding.specs.Set.{mem}
-use Rattle.cmpnt_list.specs.Calls.{differentRows}
-use Rattle.cmpnt_list.proofs.Tests.{both-parts, different-is, third-ready}
+use Rattle.encoding.proofs.Faults.{both-parts, different-is}
+use Rattle.cmpnt_list.proofs.Tests.{third-ready}
 use Rattle.cmpnt_list.proofs.third_fault.Statement.{statement}
 use Rattle.cmpnt_list.proofs.third_fault.Tie as tie
 

@@ -1,11 +1,11 @@
 use mathlib.Core.Bool.{false}
 use Rattle.encoding.specs.Refusals.{someBelow, badBits}
-use Rattle.encoding.proofs.Spare.{high, rows-none, row-last, any-more, any-hit}
+use Rattle.encoding.proofs.Spare.{high, rows-none, row-last}
+use Rattle.encoding.proofs.Scan.{any-more, any-hit}
 use borrow.Author.Needs.{needs}
 use native.Mathlib.Omega.{arith}
 use mathlib.Core.Path.{_≡_, refl, sym, ap, _∙_}
-use Prim.Native.Nat.{ℕ, _+_, _*_, _-_, _/_, _<_, _≤_}
-use lib.ListN.{length, getD, drop, take, length-set}
+use Prim.Native.Nat.{ℕ, _-_, _≤_}
 use Rattle.encoding.proofs.bad_bits.Statement.{statement}
 use Rattle.encoding.proofs.bad_bits.Tie as tie
 use Rattle.encoding.proofs.bad_bits.Reads as reads

@@ -5,8 +5,8 @@ use Rattle.replay.proofs.Faults.{refusing, check-passed, judging}
 use Rattle.replay.proofs.check.Statement.{statement}
 use Rattle.replay.proofs.check.Tie as tie
 
-task-fault-requires : tie.Need-task-fault-requires
-task-fault-requires c κs = search needs
+reduce-fault-requires : tie.Need-reduce-fault-requires
+reduce-fault-requires c κs = search needs
 
 claim-fault-requires : tie.Need-claim-fault-requires
 claim-fault-requires c κs = search needs
@@ -29,7 +29,7 @@ returns c =
     let a = s .args in
     let T = task (a .n) (mem (a .x .now) (a .z .now) (a .phases .now)) (a .order .now) (a .listed .now) (a .extra .now) in
     let L = claim (a .log .now) (mem (a .cx .now) (a .cz .now) (a .cphases .now)) in
-    let t = c .before .before .before .task-fault in
+    let t = c .before .before .before .reduce-fault in
     let k = c .before .before .claim-fault in
     let m = c .before .smaller in
     refusing T L (t .ensures .0) (k .ensures .0) (m .ensures) (t .ensures .1) (k .ensures .1) (c .if1 .taken)
@@ -40,7 +40,7 @@ judge-requires c κs =
     let a = s .args in
     let T = task (a .n) (mem (a .x .now) (a .z .now) (a .phases .now)) (a .order .now) (a .listed .now) (a .extra .now) in
     let L = claim (a .log .now) (mem (a .cx .now) (a .cz .now) (a .cphases .now)) in
-    let t = c .before .before .before .before .before .before .task-fault in
+    let t = c .before .before .before .before .before .before .reduce-fault in
     let k = c .before .before .before .before .before .claim-fault in
     let m = c .before .before .before .before .smaller in
     check-passed T L (t .ensures .0) (k .ensures .0) (m .ensures) (t .ensures .1) (k .ensures .1) (c .before .before .before .if1 .left)
@@ -60,7 +60,7 @@ returns-2 c =
     let a = s .args in
     let T = task (a .n) (mem (a .x .now) (a .z .now) (a .phases .now)) (a .order .now) (a .listed .now) (a .extra .now) in
     let L = claim (a .log .now) (mem (a .cx .now) (a .cz .now) (a .cphases .now)) in
-    let t = c .before .before .before .before .before .before .before .before .before .before .before .before .before .task-fault in
+    let t = c .before .before .before .before .before .before .before .before .before .before .before .before .before .reduce-fault in
     let k = c .before .before .before .before .before .before .before .before .before .before .before .before .claim-fault in
     let m = c .before .before .before .before .before .before .before .before .before .before .before .smaller in
     judging T L (t .ensures .0) (k .ensures .0) (m .ensures) (t .ensures .1) (k .ensures .1) (c .before .before .before .before .before .before .before .before .before .before .if1 .left) (c .before .before .before .before .before .before .judge .ensures)
@@ -69,7 +69,7 @@ pub check-spec : {M : Type 1} → statement M
 check-spec =
     tie.close
     (tie.spec
-    task-fault-requires
+    reduce-fault-requires
     claim-fault-requires
     smaller-requires
     same-length

@@ -9,7 +9,7 @@ use Rattle.replay.proofs.compare.Tie as tie
 first-diff-requires : tie.Need-first-diff-requires
 first-diff-requires c κs =
     let p = c .before .before .before .before .before .before .before .before .before .pre in
-    (p .of-task .start-set .valid, (p .of-claim .claimed-set, sym (p .of-claim .as-many)))
+    (p .of-task .sound .valid, (p .of-claim .claimed-set, sym (p .of-claim .as-many)))
 
 returns : tie.Need-returns
 returns c =

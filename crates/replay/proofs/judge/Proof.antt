@@ -8,7 +8,7 @@ use Rattle.replay.proofs.judge.Tie as tie
 first-bad-requires : tie.Need-first-bad-requires
 first-bad-requires c κs =
     let p = c .before .before .before .before .before .before .before .before .before .before .pre .of-task in
-    few (p .asked) (p .start-set .few-rows)
+    few (p .asked) (p .sound .few-rows)
 
 to-replay-requires : tie.Need-to-replay-requires
 to-replay-requires c κs = search needs

@@ -1,4 +1,4 @@
-use Rattle.terms.proofs.Answers.{reduce-refused, leaves-at}
+use Rattle.terms.proofs.Answers.{lists-in, reduce-refused, leaves-at}
 use Rattle.terms.specs.Calls.{outcomeOf}
 use Rattle.encoding.specs.Set.{mem}
 use mathlib.Core.Path.{sym, _∙_}
@@ -22,7 +22,7 @@ returns : tie.Need-returns
 returns c = let a = c .before .before .before .before .before .before .before .before .before .before .before .before .args in reduce-refused (a .n) _ _ (outcomeOf (a .n) (a .order .now) (a .listed .now) (a .extra .now) (mem (a .x .now) (a .z .now) (a .phases .now)) (a .log .now)) (mem (a .x .now) (a .z .now) (a .phases .now)) (a .log .now) (c .before .reduce-fault .ensures .0) (c .if1 .taken)
 
 reduced-requires : tie.Need-reduced-requires
-reduced-requires c κs = c .before .before .before .before .before .reduce-fault .ensures .1 (c .before .before .before .before .if1 .left)
+reduced-requires c κs = lists-in (c .before .before .before .before .before .reduce-fault .ensures .1 (c .before .before .before .before .if1 .left))
 
 same-length-4 : tie.Need-same-length-4
 same-length-4 c = search needs

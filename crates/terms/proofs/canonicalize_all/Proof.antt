@@ -1,4 +1,5 @@
-use Rattle.terms.proofs.Answers.{sound-told, reduce-refused, leaves-at}
+use Rattle.encoding.proofs.Sets.{sound-of}
+use Rattle.terms.proofs.Answers.{reduce-refused, leaves-at}
 use Rattle.terms.specs.Calls.{wholeOutcome}
 use Rattle.encoding.specs.Set.{mem}
 use mathlib.Core.Path.{sym, _∙_}
@@ -22,7 +23,7 @@ returns : tie.Need-returns
 returns c = let a = c .before .before .before .before .before .before .before .before .before .args in reduce-refused (a .n) _ _ (wholeOutcome (a .n) (mem (a .x .now) (a .z .now) (a .phases .now)) (a .log .now)) (mem (a .x .now) (a .z .now) (a .phases .now)) (a .log .now) (c .before .set-fault .ensures .0) (c .if1 .taken)
 
 reduced-all-requires : tie.Need-reduced-all-requires
-reduced-all-requires c κs = let a = c .before .before .before .before .before .before .before .before .before .before .before .before .before .args in sound-told (a .n) (mem (a .x .now) (a .z .now) (a .phases .now)) (c .before .before .before .before .before .set-fault .ensures .0) (c .before .before .before .before .before .set-fault .ensures .1) (c .before .before .before .before .if1 .left)
+reduced-all-requires c κs = let a = c .before .before .before .before .before .before .before .before .before .before .before .before .before .args in sound-of (a .n) (mem (a .x .now) (a .z .now) (a .phases .now)) (c .before .before .before .before .before .set-fault .ensures .0) (c .before .before .before .before .before .set-fault .ensures .1) (c .before .before .before .before .if1 .left)
 
 same-length-4 : tie.Need-same-length-4
 same-length-4 c = search needs

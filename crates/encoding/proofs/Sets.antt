@@ -1,0 +1,112 @@
+-- Whole row sets: what the tests tell of one, and that they pass a row set within the limits; two sets whose rows agree; the set that holds given rows.
+-- Assumes nothing.
+use mathlib.Core.Path.{_≡_, refl, sym, ap, ap₂, _∙_, subst}
+use mathlib.Core.Bool.{Bool, false, cond}
+use mathlib.Core.List.{List, []}
+use Prim.Native.Nat.{ℕ, _+_, _*_, _<_}
+use native.Mathlib.Omega.{arith}
+use borrow.Author.Tests.{le-ltb, ltb-false, eq-eqb}
+use lib.Dec.{ltb}
+use lib.ListN.{length, getD, drop}
+use lib.Seq.{ext-getD}
+use Rattle.pauli.specs.declared.PauliMatrix.the-variants.{I}
+use Rattle.pauli.specs.Pauli.{Pauli, hasX, hasZ}
+use Rattle.pauli.specs.Row.{Row, bitRow}
+use Rattle.pauli.proofs.RowLaws.{same-bits}
+use Rattle.encoding.specs.Limits.{maxQubits, maxRows, wordsOf}
+use Rattle.encoding.specs.Words.{unpack, qubits, pack, layRows}
+use Rattle.encoding.specs.Set.{row, Mem, count, rowsIn, rowsOf, list, layIn, Valid, Sound}
+use Rattle.encoding.specs.Refusals.{faultFrom, fault, least, some, someBelow, isOn, manyQubits, manyRows, badLengths, badBits, badPhases, setTests, numberTests, readTests}
+use Rattle.encoding.proofs.Padding.{of-only}
+use Rattle.encoding.proofs.Parts.{row-long, rows-ext, length-list, getD-list, row-lay-list, length-lay-list}
+use Rattle.encoding.proofs.Reading.{length-qubits}
+use Rattle.encoding.proofs.Scan.{some-none, some-never, any-never}
+use Rattle.encoding.proofs.Faults.{pass, lengths-fit, joined-fault, number-is}
+use Rattle.encoding.proofs.Memory.{mem-eq, Proper, clean, row-count, within-limits}
+
+-- ---- the tests of a set that is read
+
+-- what the tests and their number tell
+pub sound-of : (n : ℕ) (M : Mem) {f : ℕ} → f ≡ fault (setTests n M) → (f ≡ 0 → Valid n (wordsOf n) M) → f ≡ 0 → Sound n M
+sound-of n M e v z = let l = within-limits n M (sym e ∙ z) in record { valid = v z; few-qubits = l .0; few-rows = l .1 }
+
+-- what a set that is passed holds, whatever its words
+pub read-proper : (n : ℕ) (M : Mem) → fault (setTests n M) ≡ 0 → Proper n (count M) (rowsOf n M)
+unfolding rowsIn badPhases
+read-proper n M e =
+    let m = count M in
+    let w = wordsOf n in
+    let p2 = pass 1 (manyRows m) _ (pass 0 (manyQubits n) _ e .1) in
+    let p3 = pass 2 (badLengths m w (length (M .xs)) (length (M .zs))) _ (p2 .1) in
+    let p5 = pass 4 (badPhases (M .es)) [] (pass 3 (badBits n m w (M .xs) (M .zs)) _ (p3 .1) .1) in
+    let l = lengths-fit m w (length (M .xs)) (length (M .zs)) (p3 .0) in
+    record {
+      long = λ r h.
+          let x = row-long m w r (M .xs) h (l .0) in
+          length-qubits n (row w r (M .xs)) (row w r (M .zs)) (row-long m w r (M .zs) h (l .1) ∙ sym x) (omega (arith, x));
+      small = λ r h. let g = ltb-false 3 (getD (M .es) r 0) (some-none (λ e. ltb 3 e) 0 (M .es) (p5 .0) r h) in omega arith;
+    }
+
+-- a row set within the limits is passed, and so it is with a number that is not too large
+pub set-passes : (n : ℕ) (M : Mem) → Sound n M → fault (setTests n M) ≡ 0
+unfolding faultFrom badBits badPhases
+set-passes n M s =
+    let m = count M in
+    let w = wordsOf n in
+    let v = s .valid in
+    let b4 : someBelow m (λ r. some isOn (drop n (unpack (row w r (M .xs)) (row w r (M .zs))))) ≡ false
+    = any-never _ m (λ r h. of-only isOn I refl (drop n (unpack (row w r (M .xs)) (row w r (M .zs)))) (clean n w v r h)) in
+    let b5 : some (λ e. ltb 3 e) (M .es) ≡ false = some-never (λ e. ltb 3 e) 0 (M .es) (λ k _. le-ltb 3 (getD (M .es) k 0) (let l = v .small k in omega arith)) in
+    simp (le-ltb maxQubits n (s .few-qubits), le-ltb maxRows m (s .few-rows), eq-eqb (length (M .xs)) (m * w) (v .x-long), eq-eqb (length (M .zs)) (m * w) (v .z-long), b4, b5)
+
+pub read-passes : (n : ℕ) (M : Mem) → Sound n M → (large : Bool) → large ≡ false → fault (readTests n M large) ≡ 0
+unfolding least
+read-passes n M s large e =
+    sym (joined-fault (setTests n M) (numberTests large)) ∙ ap₂ least (set-passes n M s) (sym (number-is large) ∙ ap (λ (b : Bool). cond b 6 0) e)
+
+-- ---- two sets of the same n and m: rows that agree in every bit have the same words, in every phase the same bytes
+
+module _ (n w : ℕ) {C D : Mem} (v : Valid n w C) (v′ : Valid n w D) (m : count C ≡ count D) where
+  -- row k, by its qubits
+  pub row-words : (k : ℕ) → k < count C
+      → ((i : ℕ) → i < n → getD (qubits n (row w k (C .xs)) (row w k (C .zs))) i I ≡ getD (qubits n (row w k (D .xs)) (row w k (D .zs))) i I)
+      → (row w k (C .xs) ≡ row w k (D .xs)) × (row w k (C .zs) ≡ row w k (D .zs))
+  row-words k h f =
+      let h′ : k < count D = omega arith in
+      let l = row-count n w v k h in
+      let l′ = row-count n w v′ k h′ in
+      let q : qubits n (row w k (C .xs)) (row w k (C .zs)) ≡ qubits n (row w k (D .xs)) (row w k (D .zs)) = ext-getD I _ _ (l ∙ sym l′) (λ i g. f i (omega arith)) in
+      (v .packed k h .x-is ∙ ap (pack hasX w) q ∙ sym (v′ .packed k h′ .x-is), v .packed k h .z-is ∙ ap (pack hasZ w) q ∙ sym (v′ .packed k h′ .z-is))
+
+  pub same-words : ((k : ℕ) → k < count C → (c : ℕ) → c < n + n → bitRow n (rowsIn n w C k) c ≡ bitRow n (rowsIn n w D k) c) → (C .xs ≡ D .xs) × (C .zs ≡ D .zs)
+  unfolding rowsIn
+  same-words f =
+      let m′ : count D * w ≡ count C * w = ap (λ (k : ℕ). k * w) (sym m) in
+      let at : (k : ℕ) → k < count C → (row w k (C .xs) ≡ row w k (D .xs)) × (row w k (C .zs) ≡ row w k (D .zs)) = λ k h. row-words k h (same-bits n _ _ (f k h)) in
+      (rows-ext (count C) w (C .xs) (D .xs) (v .x-long) (v′ .x-long ∙ m′) (λ k h. at k h .0), rows-ext (count C) w (C .zs) (D .zs) (v .z-long) (v′ .z-long ∙ m′) (λ k h. at k h .1))
+
+  pub same-bytes : ((k : ℕ) → k < count C → rowsIn n w C k .p ≡ rowsIn n w D k .p) → C .es ≡ D .es
+  unfolding rowsIn
+  same-bytes f = ext-getD 0 (C .es) (D .es) m f
+
+-- ---- words and bytes that hold the rows are what is laid from them
+
+-- of m rows the first r are held
+pub record Holds (w m r : ℕ) (σ : ℕ → Row) (M : Mem) : Type 0 where
+  pub x-long : length (M .xs) ≡ m * w
+  pub z-long : length (M .zs) ≡ m * w
+  pub p-long : length (M .es) ≡ m
+  pub x-row : (k : ℕ) → k < r → row w k (M .xs) ≡ pack hasX w (σ k .ps)
+  pub z-row : (k : ℕ) → k < r → row w k (M .zs) ≡ pack hasZ w (σ k .ps)
+  pub byte : (k : ℕ) → k < r → getD (M .es) k 0 ≡ σ k .p
+
+pub laid-by : {w m : ℕ} {σ : ℕ → Row} {M : Mem} → Holds w m m σ M → M ≡ layIn w m σ
+unfolding layIn
+laid-by {w} {m} {σ} {M} h =
+    let ps : ℕ → List Pauli = λ k. σ k .ps in
+    let e : ℕ → ℕ = λ k. σ k .p in
+    mem-eq
+    (rows-ext m w (M .xs) (layRows hasX w (list m ps)) (h .x-long) (length-lay-list hasX w m ps) (λ r l. h .x-row r l ∙ sym (row-lay-list hasX w m ps r l)))
+    (rows-ext m w (M .zs) (layRows hasZ w (list m ps)) (h .z-long) (length-lay-list hasZ w m ps) (λ r l. h .z-row r l ∙ sym (row-lay-list hasZ w m ps r l)))
+    (ext-getD 0 (M .es) (list m e) (h .p-long ∙ sym (length-list m e))
+    (λ i l. let k : i < m = subst (λ (j : ℕ). i < j) (h .p-long) l in h .byte i k ∙ sym (getD-list m e i 0 k)))

@@ -1,0 +1,53 @@
+-- The tests on two rows: the same Paulis at each qubit, and commuting, which goes in either order. Assumes nothing.
+use mathlib.Core.Path.{_≡_, refl, sym, ap, ap₂, _∙_, subst}
+use mathlib.Core.Bool.{true, Bool·beq}
+use mathlib.Core.List.{List, [], _∷_}
+use Prim.Native.Nat.{ℕ, zero, suc, _+_, _%_, _<_}
+use native.Mathlib.Decide.{ℕ-discrete}
+use native.Mathlib.Omega.{arith}
+use lib.Dec.{eqb, eqb→eq}
+use lib.ListN.{getD, take}
+use Rattle.pauli.specs.Pauli.{Pauli, I, ofBits, hasX, hasZ, clash, clashes}
+use Rattle.pauli.specs.Row.{Row, eqP, sameQubits}
+use Rattle.pauli.specs.Rows.{commute}
+use Rattle.pauli.proofs.Bools.{and-left, and-right, and-both, beq→, beq-same}
+use Rattle.pauli.proofs.Every.{everyP, atP}
+use Rattle.pauli.proofs.RowLaws.{both-of}
+
+eqP→ : (p q : Pauli) → eqP p q ≡ true → p ≡ q
+eqP→ p q e =
+    sym (both-of p)
+    ∙ ap₂ ofBits (beq→ (hasX p) (hasX q) (and-left (Bool·beq (hasX p) (hasX q)) _ e)) (beq→ (hasZ p) (hasZ q) (and-right (Bool·beq (hasX p) (hasX q)) _ e))
+    ∙ both-of q
+
+→eqP : (p q : Pauli) → p ≡ q → eqP p q ≡ true
+→eqP p q e = ap (eqP p) (sym e) ∙ and-both (beq-same (hasX p)) (beq-same (hasZ p))
+
+pub qubits→ : (n : ℕ) (a b : List Pauli) → sameQubits n a b ≡ true → (k : ℕ) → k < n → getD a k I ≡ getD b k I
+unfolding sameQubits
+qubits→ zero a b e k h = absurd (omega arith)
+qubits→ (suc n) a b e k h = go (λ ne. qubits→ n a b (and-left (sameQubits n a b) _ e) k (omega arith)) (ℕ-discrete k n)
+  where
+    go : ((k ≡ n → ⊥) → getD a k I ≡ getD b k I) → Dec (k ≡ n) → getD a k I ≡ getD b k I
+    go below (yes q) = subst (λ (j : ℕ). getD a j I ≡ getD b j I) (sym q) (eqP→ (getD a n I) (getD b n I) (and-right (sameQubits n a b) _ e))
+    go below (no ne) = below ne
+
+pub →qubits : (n : ℕ) (a b : List Pauli) → ((k : ℕ) → k < n → getD a k I ≡ getD b k I) → sameQubits n a b ≡ true
+unfolding sameQubits
+→qubits zero a b f = refl
+→qubits (suc n) a b f = and-both (→qubits n a b (λ k h. f k (omega arith))) (→eqP (getD a n I) (getD b n I) (f n (omega arith)))
+
+-- ---- two rows commute in either order
+
+clash-sym : (p q : Pauli) → clash p q ≡ clash q p
+clash-sym p q = eqb→eq (clash p q) (clash q p) (atP (λ q. eqb (clash p q) (clash q p)) (atP (λ p. everyP (λ q. eqb (clash p q) (clash q p))) tt p) q)
+
+clashes-sym : (a b : List Pauli) → clashes a b ≡ clashes b a
+clashes-sym [] [] = refl
+clashes-sym [] (q ∷ b) = refl
+clashes-sym (p ∷ a) [] = refl
+clashes-sym (p ∷ a) (q ∷ b) = ap₂ _+_ (clash-sym p q) (clashes-sym a b)
+
+pub commute-sym : (n : ℕ) (a b : Row) → commute n a b ≡ commute n b a
+unfolding commute
+commute-sym n a b = ap (λ (k : ℕ). eqb (k % 2) 0) (clashes-sym (take n (a .ps)) (take n (b .ps)))
