@@ -31,15 +31,14 @@ pub extern "C" fn mul_op_op_phase_u64(lx: u64, lz: u64, rx: u64, rz: u64) -> u64
     (xy + 3 * yx + 3 * xz + zx + yz + 3 * zy) % 4
 }
 
-// The exponent of i of a word of 64 Paulis on a basis state.
+// The exponent of i of a word of 64 Paulis on a basis state: 1 for each Y, and 2 more for each Y or Z on a 1.
 #[no_mangle]
 pub extern "C" fn mul_op_state_phase_u64(lx: u64, lz: u64, r: u64) -> u64
     ensures { λ e. ⌜ e ≡ actPhase (word 64 lx lz) (bits 64 r) % 4 ⌝ }
 {
-    let y0 = count(lx & lz & !r);
-    let y1 = count(lx & lz & r);
-    let z1 = count(!lx & lz & r);
-    (y0 + 3 * y1 + 2 * z1) % 4
+    let y = count(lx & lz);
+    let flips = count(lz & r);
+    (y + 2 * flips) % 4
 }
 
 // The number of qubits of a word at which the Paulis differ and neither is I.
