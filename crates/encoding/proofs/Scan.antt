@@ -26,6 +26,12 @@ module _ {A : Type 0} (f : A → Bool) (d : A) where
   unfolding some
   some-more l i h e = rw (add-one i, drop-cons l i d h, e)
 
+  -- what was found before goes along
+  pub some-next : (l : List A) (i : ℕ) (b : Bool) → i < length l → ((b || f (getD l i d)) || some f (drop (i + 1) l)) ≡ (b || some f (drop i l))
+  unfolding some
+  some-next l i true h = refl
+  some-next l i false h = rw (add-one i, drop-cons l i d h)
+
   pub some-end : (l : List A) (i : ℕ) → length l ≤ i → some f (drop i l) ≡ false
   unfolding some
   some-end l i h = ap (some f) (drop-of-length-le l h)

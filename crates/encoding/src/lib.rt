@@ -88,17 +88,18 @@ fn bad_bits(n: usize, w: usize, m: usize, x: &[u64], z: &[u64]) -> bool
     false
 }
 
+// Looks at every byte: a loop with no way out is compiled for many bytes at once.
 fn bad_phases(p: &[u8]) -> bool
     ensures { λ b. ⌜ b ≡ badPhases (now (p .entry)) ⌝ }
 {
+    let mut bad = false;
     let mut i = 0;
     while i < p.len() {
-        if 3 < p[i] {
-            return true;
-        }
+        let b = 3 < p[i];
+        bad = bad | b;
         i += 1;
     }
-    false
+    bad
 }
 
 // The number where the test passes, else the rest of the table.

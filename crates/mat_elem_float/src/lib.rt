@@ -1,7 +1,7 @@
 // Matrix elements with coefficients of two f64.
 ghost use mathlib.Core.Path.{_≡_};
 ghost use mathlib.Core.Bool.{Bool};
-ghost use Prim.Native.Nat.{ℕ};
+ghost use Prim.Native.Nat.{ℕ, _<_};
 ghost use lib.Ieee.Scale as Scale;
 ghost use lib.ListN.{length};
 ghost use Rattle.mat_elem.specs.Terms.{PartOf};
@@ -38,25 +38,16 @@ fn both_finite(c: Complex) -> bool
     if finite(c.re) { finite(c.im) } else { false }
 }
 
-// c times i to the k.
+// c times i to the k. The turned parts are looked up: a jump on k, which is any of four, is not foreseen.
 fn turn(c: Complex, k: ComplexSign) -> Complex
+    requires { ⌜ k .0 < 4 ⌝ }
     ensures { λ r. ⌜ r ≡ turnedBy (k .0) c ⌝ }
 {
-    let e = k.0;
-    match e {
-        0 => c,
-        1 => Complex {
-            re: -c.im,
-            im: c.re,
-        },
-        2 => Complex {
-            re: -c.re,
-            im: -c.im,
-        },
-        _ => Complex {
-            re: c.im,
-            im: -c.re,
-        },
+    let parts = [c.re, -c.im, -c.re, c.im];
+    let e = k.0 as usize;
+    Complex {
+        re: parts[e],
+        im: parts[(e + 3) % 4],
     }
 }
 
@@ -72,6 +63,7 @@ fn add(a: Complex, b: Complex) -> Complex
 
 // The sum with one coefficient more, turned by k.
 fn step(s: Complex, re: f64, im: f64, k: ComplexSign) -> Complex
+    requires { ⌜ k .0 < 4 ⌝ }
     ensures { λ r. ⌜ r ≡ plus s (turnedBy (k .0) (complex re im)) ⌝ }
 {
     add(s, turn(Complex { re, im }, k))

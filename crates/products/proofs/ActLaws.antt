@@ -2,12 +2,11 @@
 use mathlib.Core.Path.{_≡_, refl, sym, ap, ap₂, _∙_}
 use mathlib.Core.Bool.{Bool}
 use mathlib.Core.List.{List, _++_}
-use Prim.Native.Nat.{ℕ, suc, _+_, _%_, _≤_, _<_, zero-le}
+use Prim.Native.Nat.{ℕ, suc, _+_, _*_, _%_, _≤_, _<_, zero-le}
 use native.Mathlib.Nat.{zero-add}
 use native.Mathlib.Numerals.{add-one}
 use native.Mathlib.Omega.{arith}
 use lib.Bits.{bitXor}
-use lib.Dec.{lit<}
 use lib.ListN.{length, getD, take, drop, set, length-set}
 use lib.Seq.{drop-cons, drop-length}
 use Rattle.pauli.specs.Pauli.{turnPhase, act, actPhase}
@@ -22,7 +21,7 @@ rest lx lz st i = actPhase (unpack (drop i lx) (drop i lz)) (unbits (drop i st))
 
 pub record Turned (lx lz st₀ st : List ℕ) (e i : ℕ) : Type 0 where
   pub le : i ≤ length lx
-  pub small : e < 4
+  pub small : e ≤ 3 * i
   pub long : length st ≡ length lx
   pub words : st ≡ take i (xors lx st₀) ++ drop i st₀
   pub exponent : (e + rest lx lz st₀ i) % 4 ≡ actPhase (unpack lx lz) (unbits st₀) % 4
@@ -40,11 +39,11 @@ module _ (lx lz st₀ : List ℕ) (hz : length lz ≡ length lx) (hs : length st
 
   pub turned-none : Turned lx lz st₀ st₀ 0 0
   turned-none =
-      record { le = zero-le; small = lit< tt; long = hs; words = refl; exponent = ap (λ (n : ℕ). n % 4) (zero-add (rest lx lz st₀ 0)) }
+      record { le = zero-le; small = zero-le; long = hs; words = refl; exponent = ap (λ (n : ℕ). n % 4) (zero-add (rest lx lz st₀ 0)) }
 
   pub turned-more : {st : List ℕ} {e i : ℕ} (p : ℕ) → Turned lx lz st₀ st e i → i < length lx
       → p ≡ actPhase (word 64 (getD lx i 0) (getD lz i 0)) (bits 64 (getD st i 0)) % 4
-      → Turned lx lz st₀ (set st i (bitXor (getD lx i 0) (getD st i 0))) ((e + p) % 4) (i + 1)
+      → Turned lx lz st₀ (set st i (bitXor (getD lx i 0) (getD st i 0))) (e + p) (i + 1)
   turned-more {st} {e} {i} p t h q =
       let at : getD st i 0 ≡ getD st₀ i 0 =
       ap (λ (l : List ℕ). getD l i 0) (t .words) ∙ front-at (xors lx st₀) st₀ i (omega (arith, length-xors lx st₀ hs)) in
@@ -57,7 +56,7 @@ module _ (lx lz st₀ : List ℕ) (hz : length lz ≡ length lx) (hs : length st
         exponent = omega (arith, rest-more i h);
       }
 
-  pub turned-all : {st : List ℕ} {e i : ℕ} → Turned lx lz st₀ st e i → length lx ≤ i → Fit lx → Fit st₀ → Acted lx lz st₀ st e
+  pub turned-all : {st : List ℕ} {e i : ℕ} → Turned lx lz st₀ st e i → length lx ≤ i → Fit lx → Fit st₀ → Acted lx lz st₀ st (e % 4)
   turned-all {st} {e} {i} t h f g =
       let end : i ≡ length lx = omega (arith, t .le) in
       let b : Bool → Bool = λ x. x in

@@ -80,7 +80,7 @@ module _ {w s t : ℕ} {xs₀ zs₀ : List ℕ} (m : Room w s t xs₀ zs₀) whe
 
   pub inplace-more : {xs zs : List ℕ} {e i : ℕ} (p : ℕ) → Inplace w s t xs₀ zs₀ xs zs e i → i < w
       → p ≡ phases (word 64 (getD xs (s + i) 0) (getD zs (s + i) 0)) (word 64 (getD xs (t + i) 0) (getD zs (t + i) 0)) % 4
-      → Inplace w s t xs₀ zs₀ (set xs (s + i) (bitXor (getD xs (s + i) 0) (getD xs (t + i) 0))) (set zs (s + i) (bitXor (getD zs (s + i) 0) (getD zs (t + i) 0))) ((e + p) % 4) (i + 1)
+      → Inplace w s t xs₀ zs₀ (set xs (s + i) (bitXor (getD xs (s + i) 0) (getD xs (t + i) 0))) (set zs (s + i) (bitXor (getD zs (s + i) 0) (getD zs (t + i) 0))) (e + p) (i + 1)
   inplace-more {xs} {zs} {e} {i} p n h q =
       let vx = xors (part s (s + w) xs₀) (part t (t + w) xs₀) in
       let vz = xors (part s (s + w) zs₀) (part t (t + w) zs₀) in
@@ -101,12 +101,12 @@ module _ {w s t : ℕ} {xs₀ zs₀ : List ℕ} (m : Room w s t xs₀ zs₀) whe
       }
 
   pub inplace-all : {xs zs : List ℕ} {e i : ℕ} → Inplace w s t xs₀ zs₀ xs zs e i → w ≤ i → Fit xs₀ → Fit zs₀
-      → Product (part s (s + w) xs₀) (part s (s + w) zs₀) (part t (t + w) xs₀) (part t (t + w) zs₀) (part s (s + w) xs) (part s (s + w) zs) e
+      → Product (part s (s + w) xs₀) (part s (s + w) zs₀) (part t (t + w) xs₀) (part t (t + w) zs₀) (part s (s + w) xs) (part s (s + w) zs) (e % 4)
   inplace-all {xs} {zs} {e} {i} n h f g =
       let lx : length (part s (s + w) xs₀) ≡ w = long s xs₀ (m .s-x) in
       done-all same (n .done) (omega arith) (fit-part s (s + w) xs₀ f) (fit-part s (s + w) zs₀ g) (fit-part t (t + w) xs₀ f) (fit-part t (t + w) zs₀ g)
 
-  pub multiplied : {xs zs : List ℕ} {e i : ℕ} → Inplace w s t xs₀ zs₀ xs zs e i → w ≤ i → Fit xs₀ → Fit zs₀ → Multiplied w s t xs₀ zs₀ xs zs e
+  pub multiplied : {xs zs : List ℕ} {e i : ℕ} → Inplace w s t xs₀ zs₀ xs zs e i → w ≤ i → Fit xs₀ → Fit zs₀ → Multiplied w s t xs₀ zs₀ xs zs (e % 4)
   multiplied n h f g = record { here = inplace-all n h f g; x-rest = n .x-rest; z-rest = n .z-rest }
 
 -- ---- the tests as the code makes them

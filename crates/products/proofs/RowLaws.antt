@@ -6,7 +6,6 @@ use native.Mathlib.Nat.{zero-add, suc-inj, not-suc-le-zero, le-of-suc-le-suc}
 use native.Mathlib.Numerals.{add-one}
 use native.Mathlib.Omega.{arith}
 use lib.Bits.{bitXor, xor-lt}
-use lib.Dec.{lit<}
 use lib.ListN.{length, getD, take, drop, set, length-set, drop-of-length-le}
 use native.Mathlib.Decide.{decLt}
 use lib.Seq.{drop-cons, drop-length, drop-nil}
@@ -129,7 +128,7 @@ all-of n a b o₀ o i ha hb ho h e =
 
 pub record Done (lx lz rx rz ox₀ oz₀ ox oz : List ℕ) (e i : ℕ) : Type 0 where
   pub le : i ≤ length lx
-  pub small : e < 4
+  pub small : e ≤ 3 * i
   pub x-long : length ox ≡ length lx
   pub z-long : length oz ≡ length lx
   pub x-words : ox ≡ take i (xors lx rx) ++ drop i ox₀
@@ -141,7 +140,7 @@ module _ {lx lz rx rz ox₀ oz₀ : List ℕ} (s : SameLength (length lx) lx lz 
   done-none =
       record {
         le = zero-le;
-        small = lit< tt;
+        small = zero-le;
         x-long = s .in-ox;
         z-long = s .in-oz;
         x-words = refl;
@@ -151,7 +150,7 @@ module _ {lx lz rx rz ox₀ oz₀ : List ℕ} (s : SameLength (length lx) lx lz 
 
   pub done-more : {ox oz : List ℕ} {e i : ℕ} (p : ℕ) → Done lx lz rx rz ox₀ oz₀ ox oz e i → i < length lx
       → p ≡ phases (word 64 (getD lx i 0) (getD lz i 0)) (word 64 (getD rx i 0) (getD rz i 0)) % 4
-      → Done lx lz rx rz ox₀ oz₀ (set ox i (bitXor (getD lx i 0) (getD rx i 0))) (set oz i (bitXor (getD lz i 0) (getD rz i 0))) ((e + p) % 4) (i + 1)
+      → Done lx lz rx rz ox₀ oz₀ (set ox i (bitXor (getD lx i 0) (getD rx i 0))) (set oz i (bitXor (getD lz i 0) (getD rz i 0))) (e + p) (i + 1)
   done-more {ox} {oz} {e} {i} p d h q =
       record {
         le = omega arith;
@@ -164,7 +163,7 @@ module _ {lx lz rx rz ox₀ oz₀ : List ℕ} (s : SameLength (length lx) lx lz 
       }
 
   pub done-all : {ox oz : List ℕ} {e i : ℕ} → Done lx lz rx rz ox₀ oz₀ ox oz e i → length lx ≤ i → Fit lx → Fit lz → Fit rx → Fit rz
-      → Product lx lz rx rz ox oz e
+      → Product lx lz rx rz ox oz (e % 4)
   done-all {ox} {oz} {e} {i} d h f₁ f₂ f₃ f₄ =
       let end : i ≡ length lx = omega (arith, d .le) in
       record {
@@ -173,11 +172,11 @@ module _ {lx lz rx rz ox₀ oz₀ : List ℕ} (s : SameLength (length lx) lx lz 
         exponent = omega (arith, to-come-none phase lx lz rx rz i (omega (arith, s .in-lz, s .in-rx, s .in-rz)));
       }
 
--- ---- sums over the words, mod 4 and mod 2
+-- ---- sums over the words, mod 4 and mod 2: n so far, at most b
 
-pub record Summing (v : Pauli → Pauli → ℕ) (q : ℕ) (lx lz rx rz : List ℕ) (k n i : ℕ) : Type 0 where
+pub record Summing (v : Pauli → Pauli → ℕ) (q b : ℕ) (lx lz rx rz : List ℕ) (k n i : ℕ) : Type 0 where
   pub le : i ≤ k
-  pub small : n < q
+  pub small : n ≤ b
   pub whole : (n + to-come v lx lz rx rz i) % q ≡ total v (unpack lx lz) (unpack rx rz) % q
 
 module _ (lx lz rx rz : List ℕ) {k : ℕ} (hk : k ≡ shortest₄ lx lz rx rz) where
@@ -185,16 +184,16 @@ module _ (lx lz rx rz : List ℕ) {k : ℕ} (hk : k ≡ shortest₄ lx lz rx rz)
     pub one-more : to-come v lx lz rx rz i ≡ total v (word 64 (getD lx i 0) (getD lz i 0)) (word 64 (getD rx i 0) (getD rz i 0)) + to-come v lx lz rx rz (i + 1)
     one-more = to-come-more v lx lz rx rz i (omega arith) (omega arith) (omega arith) (omega arith)
 
-  pub phase-more : {n i : ℕ} (p : ℕ) → Summing phase 4 lx lz rx rz k n i → i < k
-      → p ≡ phases (word 64 (getD lx i 0) (getD lz i 0)) (word 64 (getD rx i 0) (getD rz i 0)) % 4 → Summing phase 4 lx lz rx rz k ((n + p) % 4) (i + 1)
+  pub phase-more : {n i : ℕ} (p : ℕ) → Summing phase 4 (3 * i) lx lz rx rz k n i → i < k
+      → p ≡ phases (word 64 (getD lx i 0) (getD lz i 0)) (word 64 (getD rx i 0) (getD rz i 0)) % 4 → Summing phase 4 (3 * (i + 1)) lx lz rx rz k (n + p) (i + 1)
   phase-more {n} {i} p s h e = record { le = omega arith; small = omega arith; whole = omega (arith, one-more phase h, s .whole) }
 
-  pub clash-more : {n i : ℕ} (p : ℕ) → Summing clash 2 lx lz rx rz k n i → i < k
-      → p ≡ clashes (word 64 (getD lx i 0) (getD lz i 0)) (word 64 (getD rx i 0) (getD rz i 0)) → Summing clash 2 lx lz rx rz k ((n + p) % 2) (i + 1)
+  pub clash-more : {n i : ℕ} (p : ℕ) → Summing clash 2 1 lx lz rx rz k n i → i < k
+      → p ≡ clashes (word 64 (getD lx i 0) (getD lz i 0)) (word 64 (getD rx i 0) (getD rz i 0)) → Summing clash 2 1 lx lz rx rz k ((n + p) % 2) (i + 1)
   clash-more {n} {i} p s h e = record { le = omega arith; small = omega arith; whole = omega (arith, one-more clash h, s .whole) }
 
-  pub phase-all : {n i : ℕ} → Summing phase 4 lx lz rx rz k n i → k ≤ i → n ≡ phases (unpack lx lz) (unpack rx rz) % 4
+  pub phase-all : {n i : ℕ} → Summing phase 4 (3 * i) lx lz rx rz k n i → k ≤ i → n % 4 ≡ phases (unpack lx lz) (unpack rx rz) % 4
   phase-all {n} {i} s h = omega (arith, to-come-none phase lx lz rx rz i (omega arith), s .whole)
 
-  pub clash-all : {n i : ℕ} → Summing clash 2 lx lz rx rz k n i → k ≤ i → n ≡ clashes (unpack lx lz) (unpack rx rz) % 2
+  pub clash-all : {n i : ℕ} → Summing clash 2 1 lx lz rx rz k n i → k ≤ i → n ≡ clashes (unpack lx lz) (unpack rx rz) % 2
   clash-all {n} {i} s h = omega (arith, to-come-none clash lx lz rx rz i (omega arith), s .whole)

@@ -82,9 +82,9 @@ two =
 abbrev pub apart : List (ℕ × Mask)
 apart = (1, differ (both lx rz) (both lz rx)) ∷ []
 
--- on a state: Y on 0, Y on 1, Z on 1
-abbrev pub three : List (ℕ × Mask)
-three = (1, both (both lx lz) (inv rx)) ∷ (3, both (both lx lz) rx) ∷ (2, both (both (inv lx) lz) rx) ∷ []
+-- on a state: Y, and Y or Z on 1
+abbrev pub acting : List (ℕ × Mask)
+acting = (1, both lx lz) ∷ (2, both lz rx) ∷ []
 
 -- ---- their counts
 
@@ -102,5 +102,5 @@ two-phases = counts₄ phase two tt
 pub apart-clashes : (d a b c e : ℕ) → Below d (a ∷ b ∷ c ∷ e ∷ []) → counted d (a ∷ b ∷ c ∷ e ∷ []) apart ≡ clashes (word d a b) (word d c e)
 apart-clashes = counts₄ clash apart tt
 
-pub three-phases : (d a b r : ℕ) → Below d (a ∷ b ∷ r ∷ []) → counted d (a ∷ b ∷ r ∷ []) three ≡ actPhase (word d a b) (bits d r)
-three-phases d a b r h = counts three (λ bs. turnPhase (leftP bs) (getD bs 2 false)) 3 tt d (a ∷ b ∷ r ∷ []) refl h ∙ act-places d a b r
+pub acting-phases : (d a b r : ℕ) → Below d (a ∷ b ∷ r ∷ []) → counted d (a ∷ b ∷ r ∷ []) acting ≡ actPhase (word d a b) (bits d r)
+acting-phases d a b r h = counts acting (λ bs. turnPhase (leftP bs) (getD bs 2 false)) 3 tt d (a ∷ b ∷ r ∷ []) refl h ∙ act-places d a b r

@@ -31,15 +31,14 @@ pub extern "C" fn mul_op_op_phase_u64(lx: u64, lz: u64, rx: u64, rz: u64) -> u64
     (xy + 3 * yx + 3 * xz + zx + yz + 3 * zy) % 4
 }
 
-// The exponent of i of a word of 64 Paulis on a basis state.
+// The exponent of i of a word of 64 Paulis on a basis state: 1 for each Y, and 2 more for each Y or Z on a 1.
 #[no_mangle]
 pub extern "C" fn mul_op_state_phase_u64(lx: u64, lz: u64, r: u64) -> u64
     ensures { λ e. ⌜ e ≡ actPhase (word 64 lx lz) (bits 64 r) % 4 ⌝ }
 {
-    let y0 = count(lx & lz & !r);
-    let y1 = count(lx & lz & r);
-    let z1 = count(!lx & lz & r);
-    (y0 + 3 * y1 + 2 * z1) % 4
+    let y = count(lx & lz);
+    let flips = count(lz & r);
+    (y + 2 * flips) % 4
 }
 
 // The number of qubits of a word at which the Paulis differ and neither is I.
@@ -61,7 +60,8 @@ fn shortest(a: &[u64], b: &[u64], c: &[u64], d: &[u64]) -> usize
     shorter(a.len(), shorter(b.len(), shorter(c.len(), d.len())))
 }
 
-// The exponent of the product of two rows.
+// The exponent of the product of two rows. Here and below the words' exponents, 3 at most each, are summed, and reduced once: such a loop is
+// compiled for several words at once.
 pub fn mul_op_op_phase(lx: &[u64], lz: &[u64], rx: &[u64], rz: &[u64]) -> ComplexSign
     ensures { λ e. ⌜ e .0 ≡ phases (unpack (now (lx .entry)) (now (lz .entry))) (unpack (now (rx .entry)) (now (rz .entry))) % 4 ⌝ }
 {
@@ -69,10 +69,10 @@ pub fn mul_op_op_phase(lx: &[u64], lz: &[u64], rx: &[u64], rz: &[u64]) -> Comple
     let mut e: u64 = 0;
     let mut i = 0;
     while i < k {
-        e = (e + mul_op_op_phase_u64(lx[i], lz[i], rx[i], rz[i])) % 4;
+        e += mul_op_op_phase_u64(lx[i], lz[i], rx[i], rz[i]);
         i += 1;
     }
-    ComplexSign(e as u8)
+    ComplexSign((e % 4) as u8)
 }
 
 // Whether two rows commute: an even number of qubits hold differing Paulis that are not I.
@@ -108,12 +108,12 @@ fn mul_row(
         let b = lz[i];
         let c = rx[i];
         let d = rz[i];
-        e = (e + mul_op_op_phase_u64(a, b, c, d)) % 4;
+        e += mul_op_op_phase_u64(a, b, c, d);
         ox[i] = a ^ c;
         oz[i] = b ^ d;
         i += 1;
     }
-    ComplexSign(e as u8)
+    ComplexSign((e % 4) as u8)
 }
 
 // The same at the first k words of each of the six parts.
@@ -195,12 +195,12 @@ fn imul_row(x: &mut [u64], z: &mut [u64], s: usize, t: usize, w: usize) -> Compl
         let lz = z[a];
         let rx = x[b];
         let rz = z[b];
-        e = (e + mul_op_op_phase_u64(lx, lz, rx, rz)) % 4;
+        e += mul_op_op_phase_u64(lx, lz, rx, rz);
         x[a] = lx ^ rx;
         z[a] = lz ^ rz;
         i += 1;
     }
-    ComplexSign(e as u8)
+    ComplexSign((e % 4) as u8)
 }
 
 // A row is multiplied in place by another of the same set, w words from s on by w words from t on; where these do not lie inside, or
@@ -229,11 +229,11 @@ fn act_row(lx: &[u64], lz: &[u64], st: &mut [u64]) -> ComplexSign
         let a = lx[i];
         let b = lz[i];
         let r = st[i];
-        e = (e + mul_op_state_phase_u64(a, b, r)) % 4;
+        e += mul_op_state_phase_u64(a, b, r);
         st[i] = a ^ r;
         i += 1;
     }
-    ComplexSign(e as u8)
+    ComplexSign((e % 4) as u8)
 }
 
 // The same at the first k words of each part.

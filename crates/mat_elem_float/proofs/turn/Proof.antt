@@ -1,23 +1,48 @@
-use lib.Ieee.{neg}
-use Rattle.mat_elem.proofs.SumLaws.{turned-rest}
+use mathlib.Core.Path.{_≡_, refl}
+use mathlib.Core.List.{List, [], _∷_}
+use Prim.Native.Nat.{ℕ, zero, suc, _+_, _%_, _<_}
+use native.Mathlib.Omega.{arith}
+use lib.Ieee.{Float, nan, neg}
+use lib.ListN.{getD}
+use borrow.Author.Needs.{needs}
+use Rattle.mat_elem_float.specs.Sums.{complex, turnedBy}
+use Rattle.mat_elem_float.specs.declared.Complex.{Complex}
 use Rattle.mat_elem_float.proofs.turn.Statement.{statement}
 use Rattle.mat_elem_float.proofs.turn.Tie as tie
 
+abbrev parts : Complex → List Float
+parts c = c .re ∷ neg (c .im) ∷ neg (c .re) ∷ c .im ∷ []
+
+-- the imaginary part stands one place before the real part, in a ring
+looked-up : (c : Complex) (k : ℕ) → k < 4 → complex (getD (parts c) k nan) (getD (parts c) ((k + 3) % 4) nan) ≡ turnedBy k c
+looked-up c zero h = refl
+looked-up c (suc zero) h = refl
+looked-up c (suc (suc zero)) h = refl
+looked-up c (suc (suc (suc zero))) h = refl
+looked-up c (suc (suc (suc (suc k)))) h = absurd (omega arith)
+
+cast-e : tie.Need-cast-e
+cast-e c = search needs
+
+mul-t7 : tie.Need-mul-t7
+mul-t7 c = search needs
+
+array-read-t5 : tie.Need-array-read-t5
+array-read-t5 c = search needs
+
+add-t10 : tie.Need-add-t10
+add-t10 c = search needs
+
+mul-t12 : tie.Need-mul-t12
+mul-t12 c = search needs
+
+array-read-t6 : tie.Need-array-read-t6
+array-read-t6 c = search needs
+
 returns : tie.Need-returns
-returns c = rw (c .match .keys1)
-
-returns-2 : tie.Need-returns-2
-returns-2 c = rw (c .before .match .keys2)
-
-returns-3 : tie.Need-returns-3
-returns-3 c = rw (c .before .before .match .keys3)
-
-returns-4 : tie.Need-returns-4
-returns-4 c =
-    let m = c .before .match .rest in
-    let a = c .before .before .args .c in
-    let r = turned-rest neg (a .re) (a .im) (c .before .before .args .k .0) (m .0 .0 .1) (m .0 .1) (m .1) in
-    rw r
+returns c =
+    let s = c .before .before .before in
+    looked-up (s .args .c) (s .args .k .0) (s .pre)
 
 pub turn-spec : {M : Type 1} → statement M
-turn-spec = tie.close (tie.spec returns returns-2 returns-3 returns-4)
+turn-spec = tie.close (tie.spec cast-e mul-t7 array-read-t5 add-t10 mul-t12 array-read-t6 returns)

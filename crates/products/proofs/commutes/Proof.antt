@@ -1,6 +1,6 @@
 use borrow.Author.Needs.{needs}
 use native.Mathlib.Nat.{zero-add}
-use lib.Dec.{eqb, lit<}
+use lib.Dec.{eqb}
 use Prim.Native.Nat.{_%_, zero-le}
 use Rattle.pauli.specs.Pauli.{clash}
 use Rattle.products.proofs.RowLaws.{Summing, to-come, clash-more, clash-all}
@@ -16,7 +16,7 @@ use Rattle.products.proofs.clash_u64.Reads as clash-u64-reads
 use Rattle.products.proofs.shortest.Reads as shortest-reads
 
 abbrev Inv-loop : tie.InvT-loop
-Inv-loop lx lz rx rz k n₀ i₀ n i = Summing clash 2 lx lz rx rz k n i
+Inv-loop lx lz rx rz k n₀ i₀ n i = Summing clash 2 1 lx lz rx rz k n i
 
 abbrev μ-loop : tie.MeasureT-loop
 μ-loop lx lz rx rz k n₀ i₀ n i = k - i
@@ -29,7 +29,7 @@ loop-holds c =
     let a = c .before .before .before .before .before .args in
     record {
       le = zero-le;
-      small = lit< tt;
+      small = zero-le;
       whole = ap (λ (m : ℕ). m % 2) (zero-add (to-come clash (a .lx .now) (a .lz .now) (a .rx .now) (a .rz .now) 0));
     }
 

@@ -1,6 +1,5 @@
 use borrow.Author.Needs.{needs}
 use native.Mathlib.Nat.{zero-add}
-use lib.Dec.{eqb, lit<}
 use Prim.Native.Nat.{_%_, zero-le}
 use Rattle.pauli.specs.Pauli.{phase}
 use Rattle.products.proofs.RowLaws.{Summing, to-come, phase-more, phase-all}
@@ -16,7 +15,7 @@ use Rattle.products.proofs.mul_op_op_phase_u64.Reads as mul-op-op-phase
 use Rattle.products.proofs.shortest.Reads as shortest-reads
 
 abbrev Inv-loop : tie.InvT-loop
-Inv-loop lx lz rx rz k e₀ i₀ e i = Summing phase 4 lx lz rx rz k e i
+Inv-loop lx lz rx rz k e₀ i₀ e i = Summing phase 4 (3 * i) lx lz rx rz k e i
 
 abbrev μ-loop : tie.MeasureT-loop
 μ-loop lx lz rx rz k e₀ i₀ e i = k - i
@@ -29,7 +28,7 @@ loop-holds c =
     let a = c .before .before .before .before .before .args in
     record {
       le = zero-le;
-      small = lit< tt;
+      small = zero-le;
       whole = ap (λ (m : ℕ). m % 4) (zero-add (to-come phase (a .lx .now) (a .lz .now) (a .rx .now) (a .rz .now) 0));
     }
 
