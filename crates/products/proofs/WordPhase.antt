@@ -1,15 +1,15 @@
 -- The counts of masked words are sums over the qubits: of exponents, and of clashes. Assumes nothing.
-use mathlib.Core.Path.{_≡_, refl, sym, ap, ap₂, _∙_}
-use mathlib.Core.Bool.{Bool, true, false}
+use mathlib.Core.Path.{_≡_, refl, ap, _∙_}
+use mathlib.Core.Bool.{Bool, false}
 use mathlib.Core.List.{List, [], _∷_}
-use Prim.Native.Nat.{ℕ, zero, suc, _+_, _*_, _/_, _^_, _<_}
+use Prim.Native.Nat.{ℕ, zero, suc, _+_, _/_, _^_, _<_}
 use lib.Dec.{T, eqb}
 use lib.ListN.{getD}
 use lib.Pow.{pow-pos}
 use Rattle.pauli.specs.Pauli.{Pauli, total, phase, phases, turnPhase, actPhase, clash, clashes}
-use Rattle.encoding.specs.Words.{odd, bit, word, bits}
+use Rattle.encoding.specs.Words.{odd, word, bits}
 use Rattle.pauli.specs.Pauli.{ofBits}
-use Rattle.products.proofs.Masks.{Mask, var, inv, both, either, differ, Below, counted, place, places, everyL, counts}
+use Rattle.products.proofs.Masks.{Mask, var, inv, both, differ, Below, counted, place, places, everyL, counts}
 
 pub below₄ : (d : ℕ) {a b c e : ℕ} → a < 2 ^ d → b < 2 ^ d → c < 2 ^ d → e < 2 ^ d → Below d (a ∷ b ∷ c ∷ e ∷ [])
 below₄ d ha hb hc he zero = ha
@@ -71,13 +71,6 @@ six =
     ∷ (3, all₄ (inv lx) lz rx rz)
     ∷ []
 
--- those that give 1 joined, and those that give 3
-abbrev pub two : List (ℕ × Mask)
-two =
-    (1, either (either (all₄ lx (inv lz) rx rz) (all₄ (inv lx) lz rx (inv rz))) (all₄ lx lz (inv rx) rz))
-    ∷ (3, either (either (all₄ lx lz rx (inv rz)) (all₄ lx (inv lz) (inv rx) rz)) (all₄ (inv lx) lz rx rz))
-    ∷ []
-
 -- where the Paulis clash
 abbrev pub apart : List (ℕ × Mask)
 apart = (1, differ (both lx rz) (both lz rx)) ∷ []
@@ -95,9 +88,6 @@ counts₄ v ms t d a b c e h = counts ms (λ bs. v (leftP bs) (rightP bs)) 4 t d
 
 pub six-phases : (d a b c e : ℕ) → Below d (a ∷ b ∷ c ∷ e ∷ []) → counted d (a ∷ b ∷ c ∷ e ∷ []) six ≡ phases (word d a b) (word d c e)
 six-phases = counts₄ phase six tt
-
-pub two-phases : (d a b c e : ℕ) → Below d (a ∷ b ∷ c ∷ e ∷ []) → counted d (a ∷ b ∷ c ∷ e ∷ []) two ≡ phases (word d a b) (word d c e)
-two-phases = counts₄ phase two tt
 
 pub apart-clashes : (d a b c e : ℕ) → Below d (a ∷ b ∷ c ∷ e ∷ []) → counted d (a ∷ b ∷ c ∷ e ∷ []) apart ≡ clashes (word d a b) (word d c e)
 apart-clashes = counts₄ clash apart tt
