@@ -1,18 +1,16 @@
 -- From the tests of a call to its answer, and to what its worker may ask. Assumes nothing.
 use mathlib.Core.Path.{_≡_, refl, sym, ap, _∙_}
 use mathlib.Core.Bool.{Bool, false, cond, not, _||_}
-use mathlib.Core.List.{[]}
 use Prim.Native.Nat.{ℕ, _*_, _≤_, _<_}
 use borrow.Author.Tests.{leb-false, lt-ltb, le-ltb, eqb-true, not-false}
 use lib.Dec.{eqb, leb}
-use lib.ListN.{length}
 use Rattle.encoding.specs.Limits.{maxRows, wordsOf}
 use Rattle.encoding.specs.Set.{Mem, count, Valid}
-use Rattle.encoding.specs.Refusals.{faultFrom, fault, joined, least, manyQubits, manyRows, badLengths, setTests, outTests, numberTests, differentRows}
-use Rattle.encoding.proofs.Faults.{pass, joined-fault, both-parts, least-none, not-large, number-is, different-is, lengths-fit}
+use Rattle.encoding.specs.Refusals.{faultFrom, fault, joined, least, setTests, outTests, numberTests, differentRows}
+use Rattle.encoding.proofs.Faults.{no-test, joined-fault, both-parts, least-none, not-large, number-is, different-is, same-rows}
 use Rattle.encoding.proofs.WordLaws.{Fit}
 use Rattle.encoding.proofs.Memory.{valid-of}
-use Rattle.encoding.proofs.Sets.{sound-of}
+use Rattle.encoding.proofs.Sets.{sound-of, shape-of}
 use Rattle.encoding.proofs.Scan.{none-of}
 use Rattle.cmpnt_list.specs.Calls.{readFault, pairwiseFault, matrixTests}
 use Rattle.cmpnt_list.specs.Workers.{Asked, AskedMatrix, BothReady, ThirdReady}
@@ -56,10 +54,8 @@ pub matrix-asked : (n : ℕ) (M : Mem) (size : ℕ) {f a b : ℕ} → a ≡ faul
     → (a ≡ 0 → Valid n (wordsOf n) M) → f ≡ 0 → AskedMatrix n M size
 matrix-asked n M size {f} {a} {b} ea eb ef v z =
     let p = least-none a b (sym ef ∙ z) in
-    let q = pass 0 false _ (sym eb ∙ p .1) in
-    let r = pass 1 (manyRows (count M)) _ (q .1) in
-    let s = pass 2 (not (eqb size (count M * wordsOf (count M)))) [] (r .1) in
-    record { ready = sound-of n M ea v (p .0); fits = eqb-true size (count M * wordsOf (count M)) (not-false _ (s .0)) }
+    let no = no-test 0 (matrixTests (count M) size) (sym eb ∙ p .1) in
+    record { ready = sound-of n M ea v (p .0); fits = eqb-true size (count M * wordsOf (count M)) (not-false _ (no 2)) }
 
 -- ---- two sets that are read, and a third that is written
 
@@ -71,19 +67,13 @@ both-ready n L R {f} {a} {b} ea eb ef v u z =
 
 pub third-ready : (n m k : ℕ) (O : Mem) {f a b : ℕ} → a ≡ cond (not (eqb k m)) 3 0 → b ≡ fault (outTests n m O) → f ≡ least a b → f ≡ 0 → ThirdReady n m k O
 third-ready n m k O {f} {a} {b} ea eb ef z =
-    let w = wordsOf n in
     let p = least-none a b (sym ef ∙ z) in
-    let q = pass 0 (manyQubits n) _ (sym eb ∙ p .1) in
-    let r = pass 1 (manyRows (count O)) _ (q .1) in
-    let t = pass 2 (not (eqb (count O) m) || badLengths (count O) w (length (O .xs)) (length (O .zs))) [] (r .1) in
-    let s = none-of (not (eqb (count O) m)) (badLengths (count O) w (length (O .xs)) (length (O .zs))) (t .0) in
-    let l = lengths-fit (count O) w (length (O .xs)) (length (O .zs)) (s .1) in
-    let e : count O ≡ m = eqb-true (count O) m (not-false _ (s .0)) in
+    let s = shape-of n m O (sym eb ∙ p .1) in
     record {
-      same = eqb-true k m (not-false _ (not-large 2 (not (eqb k m)) (sym ea ∙ p .0)));
-      rows = e;
-      x-long = l .0 ∙ ap (λ (j : ℕ). j * w) e;
-      z-long = l .1 ∙ ap (λ (j : ℕ). j * w) e;
+      same = same-rows m k (sym (different-is m k) ∙ sym ea ∙ p .0);
+      rows = s .rows;
+      x-long = s .x-long ∙ ap (λ (j : ℕ). j * wordsOf n) (s .rows);
+      z-long = s .z-long ∙ ap (λ (j : ℕ). j * wordsOf n) (s .rows);
     }
 
 pub pairwise-asked : (n : ℕ) {L R : Mem} (O : Mem) → Words64 L → Words64 R → pairwiseFault n L R O ≡ 0 → BothReady n L R × ThirdReady n (count L) (count R) O

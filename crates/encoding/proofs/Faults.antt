@@ -18,18 +18,18 @@ use Rattle.encoding.proofs.Scan.{none-of}
 
 -- ---- no number fits: each test fails
 
-pub pass : (k : ℕ) (t : Bool) (ts : List Bool) → faultFrom (suc k) (t ∷ ts) ≡ 0 → (t ≡ false) × (faultFrom (suc (suc k)) ts ≡ 0)
+pass : (k : ℕ) (t : Bool) (ts : List Bool) → faultFrom (suc k) (t ∷ ts) ≡ 0 → (t ≡ false) × (faultFrom (suc (suc k)) ts ≡ 0)
 unfolding faultFrom
 pass k true ts e = absurd (suc-ne-zero k e)
 pass k false ts e = (refl, e)
 
--- ---- a number fits: its test is the first that holds
-
-none-before : (k : ℕ) (ts : List Bool) → faultFrom (suc k) ts ≡ 0 → (j : ℕ) → getD ts j false ≡ false
+pub no-test : (k : ℕ) (ts : List Bool) → faultFrom (suc k) ts ≡ 0 → (j : ℕ) → getD ts j false ≡ false
 unfolding faultFrom
-none-before k [] e j = refl
-none-before k (t ∷ ts) e zero = pass k t ts e .0
-none-before k (t ∷ ts) e (suc j) = none-before (suc k) ts (pass k t ts e .1) j
+no-test k [] e j = refl
+no-test k (t ∷ ts) e zero = pass k t ts e .0
+no-test k (t ∷ ts) e (suc j) = no-test (suc k) ts (pass k t ts e .1) j
+
+-- ---- a number fits: its test is the first that holds
 
 all-none : (k : ℕ) (ts : List Bool) → ((j : ℕ) → getD ts j false ≡ false) → faultFrom (suc k) ts ≡ 0
 unfolding faultFrom
@@ -38,7 +38,7 @@ all-none k (t ∷ ts) h = ap (λ (b : Bool). cond b (suc k) (faultFrom (suc (suc
 
 -- nothing is refused exactly when no test holds
 pub refused-never : (ts : List Bool) → (fault ts ≡ 0) ↔ ((j : ℕ) → getD ts j false ≡ false)
-refused-never ts = (none-before 0 ts, all-none 0 ts)
+refused-never ts = (no-test 0 ts, all-none 0 ts)
 
 -- test number j of the list holds, and none before it
 pub record First (ts : List Bool) (j : ℕ) : Type 0 where

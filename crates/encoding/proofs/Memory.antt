@@ -2,7 +2,7 @@
 -- rows. Assumes nothing.
 use mathlib.Core.Path.{_≡_, refl, sym, ap, ap₂, _∙_, subst}
 use mathlib.Core.Bool.{Bool, false}
-use mathlib.Core.List.{List, []}
+use mathlib.Core.List.{List}
 use Prim.Native.Nat.{ℕ, _+_, _-_, _*_, _≤_, _<_}
 use native.Mathlib.Decide.{decLt}
 use native.Mathlib.Omega.{arith}
@@ -17,14 +17,14 @@ use Rattle.pauli.proofs.RowLaws.{row-eq}
 use Rattle.encoding.specs.Limits.{maxQubits, maxRows, wordsOf}
 use Rattle.encoding.specs.Words.{unpack, qubits, pack, layRows}
 use Rattle.encoding.specs.Set.{row, Mem, count, rowsIn, list, layIn, Packed, Valid}
-use Rattle.encoding.specs.Refusals.{fault, some, isOn, manyQubits, manyRows, badLengths, badBits, badPhases, setTests}
+use Rattle.encoding.specs.Refusals.{fault, some, isOn, badBits, badPhases, setTests}
 use Rattle.encoding.proofs.WordLaws.{Fit, pack-x, pack-z}
 use Rattle.encoding.proofs.Padding.{Clean, pack-cut}
 use Rattle.encoding.proofs.Reading.{length-qubits, length-unpack, length-pack, qubits-pack, unpack-same}
 use Rattle.encoding.proofs.Parts.{row-long, fit-part, rows-ext, length-list, getD-list, row-lay-list, length-lay-list}
 use Rattle.encoding.proofs.Scan.{some-none, any-none}
 use Rattle.encoding.proofs.Spare.{off-all}
-use Rattle.encoding.proofs.Faults.{pass, lengths-fit}
+use Rattle.encoding.proofs.Faults.{no-test, lengths-fit}
 
 -- ---- a row is packed when its words fit and its bits at n and above are zero
 
@@ -62,20 +62,16 @@ unfolding badBits badPhases
 valid-of n M fx fz e =
     let m = count M in
     let w = wordsOf n in
-    let p1 = pass 0 (manyQubits n) _ e in
-    let p2 = pass 1 (manyRows m) _ (p1 .1) in
-    let p3 = pass 2 (badLengths m w (length (M .xs)) (length (M .zs))) _ (p2 .1) in
-    let p4 = pass 3 (badBits n m w (M .xs) (M .zs)) _ (p3 .1) in
-    let p5 = pass 4 (badPhases (M .es)) [] (p4 .1) in
-    let l = lengths-fit m w (length (M .xs)) (length (M .zs)) (p3 .0) in
+    let no = no-test 0 (setTests n M) e in
+    let l = lengths-fit m w (length (M .xs)) (length (M .zs)) (no 2) in
     let clean : (r : ℕ) → r < m → Clean n (row w r (M .xs)) (row w r (M .zs)) =
-    λ r h. off-all (drop n (unpack (row w r (M .xs)) (row w r (M .zs)))) (any-none (λ r. some isOn (drop n (unpack (row w r (M .xs)) (row w r (M .zs))))) m r (p4 .0) h) in
+    λ r h. off-all (drop n (unpack (row w r (M .xs)) (row w r (M .zs)))) (any-none (λ r. some isOn (drop n (unpack (row w r (M .xs)) (row w r (M .zs))))) m r (no 3) h) in
     record {
       wide = omega arith;
       x-long = l .0;
       z-long = l .1;
       packed = λ r h. packed-of n w (row-long m w r (M .xs) h (l .0)) (row-long m w r (M .zs) h (l .1)) (fit-part (r * w) (r * w + w) (M .xs) fx) (fit-part (r * w) (r * w + w) (M .zs) fz) (clean r h);
-      small = λ r. below r (p5 .0) (decLt r m);
+      small = λ r. below r (no 4) (decLt r m);
     }
   where
     below : (r : ℕ) → some (λ e. ltb 3 e) (M .es) ≡ false → Dec (r < count M) → getD (M .es) r 0 < 4
@@ -85,9 +81,8 @@ valid-of n M fx fz e =
 -- the limits, from the same
 pub within-limits : (n : ℕ) (M : Mem) → fault (setTests n M) ≡ 0 → (n ≤ maxQubits) × (count M ≤ maxRows)
 within-limits n M e =
-    let p1 = pass 0 (manyQubits n) _ e in
-    let p2 = pass 1 (manyRows (count M)) _ (p1 .1) in
-    (ltb-false maxQubits n (p1 .0), ltb-false maxRows (count M) (p2 .0))
+    let no = no-test 0 (setTests n M) e in
+    (ltb-false maxQubits n (no 0), ltb-false maxRows (count M) (no 1))
 
 -- ---- the rows of a set
 

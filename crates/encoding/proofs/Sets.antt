@@ -1,12 +1,12 @@
 -- Whole row sets: what the tests tell of one, and that they pass a row set within the limits; two sets whose rows agree; the set that holds given rows.
 -- Assumes nothing.
 use mathlib.Core.Path.{_≡_, refl, sym, ap, ap₂, _∙_, subst}
-use mathlib.Core.Bool.{Bool, false, cond}
-use mathlib.Core.List.{List, []}
-use Prim.Native.Nat.{ℕ, _+_, _*_, _<_}
+use mathlib.Core.Bool.{Bool, false, cond, not}
+use mathlib.Core.List.{List}
+use Prim.Native.Nat.{ℕ, _+_, _*_, _≤_, _<_}
 use native.Mathlib.Omega.{arith}
-use borrow.Author.Tests.{le-ltb, ltb-false, eq-eqb}
-use lib.Dec.{ltb}
+use borrow.Author.Tests.{le-ltb, ltb-false, eq-eqb, eqb-true, not-false}
+use lib.Dec.{ltb, eqb}
 use lib.ListN.{length, getD, drop}
 use lib.Seq.{ext-getD}
 use Rattle.pauli.specs.declared.PauliMatrix.the-variants.{I}
@@ -16,12 +16,12 @@ use Rattle.pauli.proofs.RowLaws.{same-bits}
 use Rattle.encoding.specs.Limits.{maxQubits, maxRows, wordsOf}
 use Rattle.encoding.specs.Words.{unpack, qubits, pack, layRows}
 use Rattle.encoding.specs.Set.{row, Mem, count, rowsIn, rowsOf, list, layIn, Valid, Sound}
-use Rattle.encoding.specs.Refusals.{faultFrom, fault, least, some, someBelow, isOn, manyQubits, manyRows, badLengths, badBits, badPhases, setTests, numberTests, readTests}
+use Rattle.encoding.specs.Refusals.{faultFrom, fault, least, some, someBelow, isOn, badLengths, badBits, badPhases, setTests, outTests, numberTests, readTests}
 use Rattle.encoding.proofs.Padding.{of-only}
 use Rattle.encoding.proofs.Parts.{row-long, rows-ext, length-list, getD-list, row-lay-list, length-lay-list}
 use Rattle.encoding.proofs.Reading.{length-qubits}
-use Rattle.encoding.proofs.Scan.{some-none, some-never, any-never}
-use Rattle.encoding.proofs.Faults.{pass, lengths-fit, joined-fault, number-is}
+use Rattle.encoding.proofs.Scan.{none-of, some-none, some-never, any-never}
+use Rattle.encoding.proofs.Faults.{no-test, lengths-fit, joined-fault, number-is}
 use Rattle.encoding.proofs.Memory.{mem-eq, Proper, clean, row-count, within-limits}
 
 -- ---- the tests of a set that is read
@@ -36,15 +36,13 @@ unfolding rowsIn badPhases
 read-proper n M e =
     let m = count M in
     let w = wordsOf n in
-    let p2 = pass 1 (manyRows m) _ (pass 0 (manyQubits n) _ e .1) in
-    let p3 = pass 2 (badLengths m w (length (M .xs)) (length (M .zs))) _ (p2 .1) in
-    let p5 = pass 4 (badPhases (M .es)) [] (pass 3 (badBits n m w (M .xs) (M .zs)) _ (p3 .1) .1) in
-    let l = lengths-fit m w (length (M .xs)) (length (M .zs)) (p3 .0) in
+    let no = no-test 0 (setTests n M) e in
+    let l = lengths-fit m w (length (M .xs)) (length (M .zs)) (no 2) in
     record {
       long = λ r h.
           let x = row-long m w r (M .xs) h (l .0) in
           length-qubits n (row w r (M .xs)) (row w r (M .zs)) (row-long m w r (M .zs) h (l .1) ∙ sym x) (omega (arith, x));
-      small = λ r h. let g = ltb-false 3 (getD (M .es) r 0) (some-none (λ e. ltb 3 e) 0 (M .es) (p5 .0) r h) in omega arith;
+      small = λ r h. let g = ltb-false 3 (getD (M .es) r 0) (some-none (λ e. ltb 3 e) 0 (M .es) (no 4) r h) in omega arith;
     }
 
 -- a row set within the limits is passed, and so it is with a number that is not too large
@@ -63,6 +61,27 @@ pub read-passes : (n : ℕ) (M : Mem) → Sound n M → (large : Bool) → large
 unfolding least
 read-passes n M s large e =
     sym (joined-fault (setTests n M) (numberTests large)) ∙ ap₂ least (set-passes n M s) (sym (number-is large) ∙ ap (λ (b : Bool). cond b 6 0) e)
+
+-- what a set that is written only has, where it is passed
+pub record Shaped (n m : ℕ) (O : Mem) : Type 0 where
+  pub few-qubits : n ≤ maxQubits
+  pub few-rows : count O ≤ maxRows
+  pub rows : count O ≡ m
+  pub x-long : length (O .xs) ≡ count O * wordsOf n
+  pub z-long : length (O .zs) ≡ count O * wordsOf n
+
+pub shape-of : (n m : ℕ) (O : Mem) → fault (outTests n m O) ≡ 0 → Shaped n m O
+shape-of n m O e =
+    let no = no-test 0 (outTests n m O) e in
+    let s = none-of (not (eqb (count O) m)) (badLengths (count O) (wordsOf n) (length (O .xs)) (length (O .zs))) (no 2) in
+    let l = lengths-fit (count O) (wordsOf n) (length (O .xs)) (length (O .zs)) (s .1) in
+    record {
+      few-qubits = ltb-false maxQubits n (no 0);
+      few-rows = ltb-false maxRows (count O) (no 1);
+      rows = eqb-true (count O) m (not-false _ (s .0));
+      x-long = l .0;
+      z-long = l .1;
+    }
 
 -- ---- two sets of the same n and m: rows that agree in every bit have the same words, in every phase the same bytes
 

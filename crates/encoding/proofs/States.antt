@@ -1,13 +1,12 @@
 -- A basis state in words: its bits are those of a run of Ys, so what is known of rows serves; what its tests leave; laid in words and read again.
 -- Assumes nothing.
 use mathlib.Core.Path.{_≡_, refl, sym, ap, ap₂, _∙_, subst}
-use mathlib.Core.Bool.{Bool, true, false, not, _||_}
+use mathlib.Core.Bool.{Bool, true, false, _||_}
 use mathlib.Core.List.{List, [], _∷_, _++_, map, map-append}
 use Prim.Native.Nat.{ℕ, zero, suc, _+_, _*_, _/_, _%_, _<_}
 use native.Mathlib.Nat.{div-add-mod'}
 use native.Mathlib.Omega.{arith}
 use borrow.Author.Tests.{eqb-true, not-false}
-use lib.Dec.{eqb}
 use lib.ListN.{length, getD, drop, length-map}
 use lib.Seq.{ext-getD, getD-take, length-take-le}
 use Rattle.pauli.specs.Pauli.{Pauli, ofBits}
@@ -15,11 +14,11 @@ use Rattle.pauli.specs.declared.PauliMatrix.the-variants.{I}
 use Rattle.encoding.specs.Limits.{wordsOf}
 use Rattle.encoding.specs.Words.{odd, bitAt, word, bits, unpack, unbits}
 use Rattle.encoding.specs.Set.{stateOf, layState}
-use Rattle.encoding.specs.Refusals.{fault, some, isOn, manyQubits, stateTests}
+use Rattle.encoding.specs.Refusals.{fault, some, isOn, stateTests}
 use Rattle.encoding.proofs.Padding.{Only, only-of}
 use Rattle.encoding.proofs.Reading.{length-unpack, length-pack}
 use Rattle.encoding.proofs.BitLaws.{unpack-at, bit-pack}
-use Rattle.encoding.proofs.Faults.{pass}
+use Rattle.encoding.proofs.Faults.{no-test}
 
 some-map : {A : Type 0} (f : A → Bool) (n : ℕ) (l : List A) → some (λ (b : Bool). b) (drop n (map f l)) ≡ some f (drop n l)
 unfolding some
@@ -49,11 +48,8 @@ state-spare n st = ap (λ (l : List Bool). some (λ (b : Bool). b) (drop n l)) (
 
 pub state-long : (n : ℕ) (st : List ℕ) → fault (stateTests n st) ≡ 0 → (length st ≡ wordsOf n) × Only false (drop n (unbits st))
 state-long n st e =
-    let p = pass 0 (manyQubits n) _ e in
-    let q = pass 1 false _ (p .1) in
-    let r = pass 2 (not (eqb (length st) (wordsOf n))) _ (q .1) in
-    let t = pass 3 (some (λ (b : Bool). b) (drop n (unbits st))) [] (r .1) in
-    (eqb-true (length st) (wordsOf n) (not-false _ (r .0)), only-of (λ (b : Bool). b) false (λ b g. g) (drop n (unbits st)) (t .0))
+    let no = no-test 0 (stateTests n st) e in
+    (eqb-true (length st) (wordsOf n) (not-false _ (no 2)), only-of (λ (b : Bool). b) false (λ b g. g) (drop n (unbits st)) (no 3))
 
 -- ---- laid, and read again
 

@@ -10,7 +10,7 @@ use lib.Bits.{bitXor}
 use lib.Dec.{ltb, eqb}
 use lib.ListN.{length}
 use Rattle.encoding.specs.Refusals.{fault, faultFrom}
-use Rattle.encoding.proofs.Faults.{pass, orElse, or-none, or-first, fault-append}
+use Rattle.encoding.proofs.Faults.{no-test, orElse, or-none, or-first, fault-append}
 use Rattle.encoding.proofs.Scan.{none-of}
 use Rattle.mat_elem.specs.Terms.{minQubits, maxQubits, maxTerms, badCount, tooMany, badLengths, badBits, falls, termTests, blockFrom, blockTo, foundOr, foundOf, BlockOf, PartOf}
 use Rattle.mat_elem.specs.declared.Found.the-variants.{Block, Refused}
@@ -33,16 +33,14 @@ pub record Shape (n m z reals imags : ℕ) : Type 0 where
 
 pub shape-sound : (n m z reals imags : ℕ) → fault (shapeTests n m z reals imags) ≡ 0 → Shape n m z reals imags
 shape-sound n m z reals imags e =
-    let p1 = pass 0 (badCount n) _ e in
-    let p2 = pass 1 (tooMany m) _ (p1 .1) in
-    let p3 = pass 2 (badLengths m z reals imags) _ (p2 .1) in
-    let zr = none-of (not (eqb z m) || not (eqb reals m)) (not (eqb imags m)) (p3 .0) in
+    let no = no-test 0 (shapeTests n m z reals imags) e in
+    let zr = none-of (not (eqb z m) || not (eqb reals m)) (not (eqb imags m)) (no 2) in
     let zs = none-of (not (eqb z m)) (not (eqb reals m)) (zr .0) in
-    let r = none-of (ltb n minQubits) (ltb maxQubits n) (p1 .0) in
+    let r = none-of (ltb n minQubits) (ltb maxQubits n) (no 0) in
     record {
       least = ltb-false n minQubits (r .0);
       most = ltb-false maxQubits n (r .1);
-      short = ltb-false maxTerms m (p2 .0);
+      short = ltb-false maxTerms m (no 1);
       z-long = eqb-true z m (not-false _ (zs .0));
       re-long = eqb-true reals m (not-false _ (zs .1));
       im-long = eqb-true imags m (not-false _ (zr .1));
@@ -67,8 +65,8 @@ module _ (n : ℕ) (xs zs : List ℕ) (reals imags bra ket : ℕ) where
   -- ---- no line fits
   pub words-sound : words ≡ 0 → (badBits n xs zs bra ket ≡ false) × (falls xs ≡ false)
   words-sound e =
-      let p = pass 3 (badBits n xs zs bra ket) _ e in
-      (p .0, pass 9 (falls xs) [] (pass 8 false _ (pass 7 false _ (pass 6 false _ (pass 5 false _ (pass 4 false _ (p .1) .1) .1) .1) .1) .1) .0)
+      let no = no-test 3 (wordTests n xs zs bra ket) e in
+      (no 0, no 6)
 
   pub sound : fault (termTests n xs zs reals imags bra ket) ≡ 0 → Sound n xs zs reals imags bra ket
   sound e =

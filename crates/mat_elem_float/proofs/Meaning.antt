@@ -14,7 +14,7 @@ use lib.Ieee.{Float, nan, binary64, add, fits}
 use lib.Ieee.Scale.{finite}
 use lib.ListN.{length, getD}
 use Rattle.encoding.specs.Refusals.{fault, faultFrom, some, someBelow}
-use Rattle.encoding.proofs.Faults.{pass, First, orElse, or-none}
+use Rattle.encoding.proofs.Faults.{no-test, First, orElse, or-none}
 use Rattle.encoding.proofs.Scan.{none-of, some-none, any-hit, any-same}
 use Rattle.mat_elem.specs.Terms.{termTests, inBlock, hasBlock}
 use Rattle.mat_elem.specs.Sums.{exponentOf, stepIf, sumOver}
@@ -88,7 +88,7 @@ module _ (n : ℕ) (xs zs : List ℕ) (re im : List Float) (bra ket : ℕ) (fr :
   plains e k h =
       let o = or-none (fault (termTests n xs zs (length re) (length im) bra ket)) (faultFrom 11 (wild re im ∷ [])) e in
       let s = sound n xs zs (length re) (length im) bra ket (o .0) .shape in
-      let w = none-of (some (λ x. not (finite x)) re) (some (λ x. not (finite x)) im) (pass 10 (wild re im) [] (o .1) .0) in
+      let w = none-of (some (λ x. not (finite x)) re) (some (λ x. not (finite x)) im) (no-test 10 (wild re im ∷ []) (o .1) 0) in
       (plain re fr (w .0) k (omega (arith, s .re-long)), plain im fi (w .1) k (omega (arith, s .im-long)))
 
   -- every partial sum of a call that 1 to 11 do not refuse

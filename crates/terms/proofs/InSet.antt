@@ -1,25 +1,24 @@
 -- A row of a set multiplied in place by another: what the words have become, as `mulIn` says it. Assumes nothing.
 use mathlib.Core.Path.{_≡_, refl, sym, ap, ap₂, _∙_, subst}
 use mathlib.Core.Logic.{_⊎_, inl, inr}
-use mathlib.Core.Bool.{Bool, true, false, cond, not, _&&_, _||_}
-use mathlib.Core.List.{List, [], _++_}
+use mathlib.Core.Bool.{Bool, true, false, cond, _&&_}
+use mathlib.Core.List.{List, _++_}
 use Prim.Native.Nat.{ℕ, _+_, _-_, _*_, _%_, _≤_, _<_}
 use native.Mathlib.Decide.{decLt, ℕ-discrete}
 use native.Mathlib.Nat.{add-sub-cancel-left}
 use native.Mathlib.Omega.{arith}
-use borrow.Author.Tests.{eq-eqb, ne-eqb, lt-ltb, le-ltb, ltb-false}
+use borrow.Author.Tests.{eq-eqb, ne-eqb, lt-ltb, le-ltb}
 use borrow.Rule.Slice.PartMut.{putMid, put-same}
 use lib.Arith.{lt-of-le-ne}
-use lib.Dec.{eqb, ltb}
+use lib.Dec.{ltb}
 use lib.ListN.{length, getD, take, drop, set}
 use lib.Seq.{drop-drop}
 use Rattle.pauli.specs.Pauli.{Pauli, hasX, hasZ, mul, phases}
 use Rattle.encoding.specs.Limits.{maxQubits, maxRows, wordsOf}
 use Rattle.encoding.specs.Words.{unpack, pack}
 use Rattle.encoding.specs.Set.{part, row, Mem, mem, count, Sound}
-use Rattle.encoding.specs.Refusals.{faultFrom, fault, manyQubits, manyRows, badLengths, outTests}
-use Rattle.encoding.proofs.Scan.{none-of}
-use Rattle.encoding.proofs.Faults.{pass, lengths-fit}
+use Rattle.encoding.specs.Refusals.{faultFrom, fault, outTests}
+use Rattle.encoding.proofs.Sets.{shape-of}
 use Rattle.encoding.proofs.Parts.{row-end, row-long}
 use Rattle.encoding.proofs.Memory.{mem-eq}
 use Rattle.encoding.proofs.Reading.{length-pack}
@@ -55,25 +54,14 @@ module _ {w a b : ℕ} {M : Mem} (h : InRows w a b M) where
       → RowsMultiplied w a b M (mem xs′ zs′ (set (M .es) a p))
   rows-multiplied {xs′} {zs′} {e} q f = record { exponent = e; words = q .done rows-inside; bytes = ap (set (M .es) a) f }
 
--- ---- the shape of a set
-
-pub shape-of : (n : ℕ) (M : Mem) → fault (outTests n (count M) M) ≡ 0
-    → (n ≤ maxQubits) × (count M ≤ maxRows) × (length (M .xs) ≡ count M * wordsOf n) × (length (M .zs) ≡ count M * wordsOf n)
-shape-of n M e =
-    let p1 = pass 0 (manyQubits n) _ e in
-    let p2 = pass 1 (manyRows (count M)) _ (p1 .1) in
-    let p3 = pass 2 (not (eqb (count M) (count M)) || badLengths (count M) (wordsOf n) (length (M .xs)) (length (M .zs))) [] (p2 .1) in
-    let l = lengths-fit (count M) (wordsOf n) (length (M .xs)) (length (M .zs)) (none-of (not (eqb (count M) (count M))) _ (p3 .0) .1) in
-    (ltb-false maxQubits n (p1 .0), ltb-false maxRows (count M) (p2 .0), l .0, l .1)
-
 pub in-rows : (n : ℕ) (M : Mem) (w a b : ℕ) → w ≡ wordsOf n → fault (outTests n (count M) M) ≡ 0 → a < count M → b < count M → InRows w a b M
 in-rows n M w a b hw e ha hb =
-    let s = shape-of n M e in
+    let s = shape-of n (count M) M e in
     record {
-      few = s .1;
-      narrow = omega (arith, s .0);
-      x-long = s .2 ∙ ap (λ k. count M * k) (sym hw);
-      z-long = s .3 ∙ ap (λ k. count M * k) (sym hw);
+      few = s .few-rows;
+      narrow = omega (arith, s .few-qubits);
+      x-long = s .x-long ∙ ap (λ k. count M * k) (sym hw);
+      z-long = s .z-long ∙ ap (λ k. count M * k) (sym hw);
       a-in = ha;
       b-in = hb;
     }
@@ -119,7 +107,7 @@ module _ (n a b : ℕ) (M : Mem) (e : fault (outTests n (count M) M) ≡ 0) (ha 
       let B = unpack (row v b (M .xs)) (row v b (M .zs)) in
       let q′ : RowsMultiplied v a b M M′ = subst (λ k. RowsMultiplied k a b M M′) hw q in
       let P = q′ .words .here in
-      let l : length (row v a (M .xs)) ≡ v = row-long (count M) v a (M .xs) ha (shape-of n M e .2) in
+      let l : length (row v a (M .xs)) ≡ v = row-long (count M) v a (M .xs) ha (shape-of n (count M) M e .x-long) in
       let product-now : M′ ≡ mem (putRow v a (pack hasX v (mul A B)) (M .xs)) (putRow v a (pack hasZ v (mul A B)) (M .zs)) (set (M .es) a ((getD (M .es) a 0 + getD (M .es) b 0 + phases A B) % 4))
       = mem-eq
       (put-is (a * v) v (q′ .words .x-rest) ∙ ap (putMid (a * v) v (M .xs)) (P .x-words ∙ ap (λ k. pack hasX k (mul A B)) l))
@@ -135,9 +123,9 @@ module _ (n a b : ℕ) (M : Mem) (e : fault (outTests n (count M) M) ≡ 0) (ha 
       let s = a * w in
       let A = unpack (row w a (M .xs)) (row w a (M .zs)) in
       let B = unpack (row w b (M .xs)) (row w b (M .zs)) in
-      let sh = shape-of n M e in
+      let sh = shape-of n (count M) M e in
       let end = row-end a w ha in
-      let l : length (row w a (M .xs)) ≡ w = row-long (count M) w a (M .xs) ha (sh .2) in
+      let l : length (row w a (M .xs)) ≡ w = row-long (count M) w a (M .xs) ha (sh .x-long) in
       let cancel : s + w - s ≡ w = add-sub-cancel-left s w in
       let at : (f : Pauli → Bool) (us : List ℕ) → length us ≡ count M * w → part s (s + w) (putMid s w us (pack f w (mul A B))) ≡ pack f (length (row w a (M .xs))) (mul A B)
       = λ f us h. ap (λ k. part s (s + w) (putMid s k us (pack f w (mul A B)))) (sym cancel)
@@ -152,9 +140,9 @@ module _ (n a b : ℕ) (M : Mem) (e : fault (outTests n (count M) M) ≡ 0) (ha 
         exponent = phases A B % 4;
         words =
             record {
-              here = record { x-words = at hasX (M .xs) (sh .2); z-words = at hasZ (M .zs) (sh .3); exponent = refl };
-              x-rest = out hasX (M .xs) (sh .2);
-              z-rest = out hasZ (M .zs) (sh .3);
+              here = record { x-words = at hasX (M .xs) (sh .x-long); z-words = at hasZ (M .zs) (sh .z-long); exponent = refl };
+              x-rest = out hasX (M .xs) (sh .x-long);
+              z-rest = out hasZ (M .zs) (sh .z-long);
             };
         bytes = ap (set (M .es) a) (omega arith);
       })

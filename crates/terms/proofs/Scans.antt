@@ -2,7 +2,7 @@
 use mathlib.Core.Path.{_≡_, refl, sym, ap, ap₂, _∙_, subst}
 use mathlib.Core.Logic.{⊎-elim}
 use mathlib.Core.Bool.{Bool, true, false, cond, not, _&&_, _||_}
-use mathlib.Core.List.{List, [], _∷_}
+use mathlib.Core.List.{List}
 use Prim.Native.Nat.{ℕ, _+_, _-_, _≤_, _<_}
 use native.Mathlib.Decide.{decLe}
 use native.Mathlib.Nat.{add-zero}
@@ -14,7 +14,7 @@ use lib.ListN.{length, getD, drop, drop-of-length-le}
 use lib.Seq.{drop-cons}
 use Rattle.encoding.specs.Refusals.{faultFrom, fault, some, tooLarge}
 use Rattle.encoding.proofs.Scan.{none-of, some-none}
-use Rattle.encoding.proofs.Faults.{pass}
+use Rattle.encoding.proofs.Faults.{no-test}
 use Rattle.reduction.specs.Lists.{In, has, distinct}
 use Rattle.reduction.specs.Demand.{Asked}
 use Rattle.reduction.proofs.Lists.{distinct→, most-below, place-of, in-either}
@@ -104,13 +104,11 @@ module _ (n m : ℕ) (order listed extra : List ℕ) where
 
   -- nothing refused: each listed row once, and all numbers below their limits
   pub asked-of : fault (listTests n m order listed extra) ≡ 0 → Asked (n + n) m order listed extra
-  unfolding faultFrom
   asked-of e =
-      let p6 = pass 5 (largeNumber n m order listed extra) (repeated listed ∷ []) e in
-      let p7 = pass 6 (repeated listed) [] (p6 .1) in
-      let r = no-large (p6 .0) in
+      let no = no-test 0 (listTests n m order listed extra) e in
+      let r = no-large (no 5) in
       record {
-        once = distinct→ listed (not-false (distinct listed) (p7 .0));
+        once = distinct→ listed (not-false (distinct listed) (no 6));
         rows-in = λ k i. ⊎-elim (all-below m listed (r .1) k) (all-below m extra (r .2) k) (in-either k listed extra i);
         columns-in = all-below (n + n) order (r .0);
       }
