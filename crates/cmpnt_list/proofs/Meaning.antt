@@ -23,7 +23,7 @@ use Rattle.encoding.specs.Limits.{maxRows, wordsOf}
 use Rattle.encoding.specs.Words.{bitAt}
 use Rattle.encoding.specs.Set.{Mem, count, rowsIn, rowsOf, list, lay, Valid, Sound, stateOf, layState}
 use Rattle.encoding.specs.Refusals.{fault, joined, setTests, numberTests, stateTests, tooLarge, doneOr, leftOr}
-use Rattle.encoding.proofs.Faults.{joined-fault, least-none, First, refused-exactly}
+use Rattle.encoding.proofs.Faults.{joined-fault, least-none, First, refused-exactly, done-none, refused-iff}
 use Rattle.encoding.proofs.Memory.{row-count, read-lay, valid-lay, count-lay, Proper}
 use Rattle.encoding.proofs.Parts.{length-list, getD-list}
 use Rattle.pauli.proofs.Lists.{length-each}
@@ -45,10 +45,6 @@ use Rattle.cmpnt_list.proofs.Tests.{Words64, asked-of, pairwise-asked, 
 
 -- ---- a call that gives a value refuses nothing, and the value is the definition's
 
-done-none : (f : ℕ) → doneOr f ≡ Done → f ≡ 0
-done-none zero e = refl
-done-none (suc k) e = let z : _≡_ {A = ℕ} 0 1 = cc in absurd (omega arith)
-
 tally-is : (f v c : ℕ) → tallyOr f v ≡ tally.Number c → (f ≡ 0) × (v ≡ c)
 tally-is zero v c e = (refl, cc)
 tally-is (suc k) v c e = let z : _≡_ {A = ℕ} 0 1 = cc in absurd (omega arith)
@@ -67,13 +63,6 @@ phase-is zero v e q = (refl, ap exponentIn q)
 phase-is (suc k) v e q = let z : _≡_ {A = ℕ} 0 1 = cc in absurd (omega arith)
 
 -- ---- refusals: the number k + 1 is given exactly when its line of the table fits the call and none before it does
-
-module _ {A : Type 0} (refuse by : ℕ → A) (given : (k : ℕ) → refuse (suc k) ≡ by (suc k)) (only : (f k : ℕ) → by f ≡ refuse (suc k) → f ≡ suc k) where
-  pub refused-iff : (ts : List Bool) (k : ℕ) → (by (fault ts) ≡ refuse (suc k)) ↔ First ts k
-  refused-iff ts k = (
-    λ e. refused-exactly ts k .0 (only (fault ts) k e),
-    λ f. ap by (refused-exactly ts k .1 f) ∙ sym (given k),
-  )
 
 pub got-refused : (p : Pauli) (ts : List Bool) (k : ℕ) → (gotOr (fault ts) p ≡ got.Refused (suc k)) ↔ First ts k
 got-refused p = refused-iff got.Refused (λ f. gotOr f p) (λ k. refl) only
@@ -100,13 +89,6 @@ pub truth-refused : (b : Bool) (ts : List Bool) (k : ℕ) → (truthOr (fault ts
 truth-refused b = refused-iff truth.Refused (λ f. truthOr f b) (λ k. refl) only
   where
     only : (f k : ℕ) → truthOr f b ≡ truth.Refused (suc k) → f ≡ suc k
-    only zero k e = let z : _≡_ {A = ℕ} 0 1 = cc in absurd (omega arith)
-    only (suc f) k e = cc
-
-pub answer-refused : (ts : List Bool) (k : ℕ) → (doneOr (fault ts) ≡ Refused (suc k)) ↔ First ts k
-answer-refused = refused-iff Refused doneOr (λ k. refl) only
-  where
-    only : (f k : ℕ) → doneOr f ≡ Refused (suc k) → f ≡ suc k
     only zero k e = let z : _≡_ {A = ℕ} 0 1 = cc in absurd (omega arith)
     only (suc f) k e = cc
 

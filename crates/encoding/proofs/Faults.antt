@@ -13,7 +13,7 @@ use lib.Dec.{ltb, eqb}
 use lib.ListN.{length, getD}
 use Rattle.encoding.specs.Words.{bit}
 use Rattle.encoding.specs.Refusals.{faultFrom, fault, joined, least, badLengths, differentRows, numberTests, doneOr, leftOr}
-use Rattle.encoding.specs.declared.Answer.the-variants.{Refused}
+use Rattle.encoding.specs.declared.Answer.the-variants.{Done, Refused}
 use Rattle.encoding.proofs.Scan.{none-of}
 
 -- ---- no number fits: each test fails
@@ -217,6 +217,26 @@ refused (suc k) h = refl
 pub kept : {A : Type 0} (k : ℕ) (old new : A) → (k ≡ 0 → ⊥) → old ≡ leftOr k old new
 kept zero old new h = absurd (h refl)
 kept (suc k) old new h = refl
+
+-- ---- by the answer: the number k + 1 is given exactly when its line of the table fits the call and none before it does
+
+module _ {A : Type 0} (refuse by : ℕ → A) (given : (k : ℕ) → refuse (suc k) ≡ by (suc k)) (only : (f k : ℕ) → by f ≡ refuse (suc k) → f ≡ suc k) where
+  pub refused-iff : (ts : List Bool) (k : ℕ) → (by (fault ts) ≡ refuse (suc k)) ↔ First ts k
+  refused-iff ts k = (
+    λ e. refused-exactly ts k .0 (only (fault ts) k e),
+    λ f. ap by (refused-exactly ts k .1 f) ∙ sym (given k),
+  )
+
+pub answer-refused : (ts : List Bool) (k : ℕ) → (doneOr (fault ts) ≡ Refused (suc k)) ↔ First ts k
+answer-refused = refused-iff Refused doneOr (λ k. refl) only
+  where
+    only : (f k : ℕ) → doneOr f ≡ Refused (suc k) → f ≡ suc k
+    only zero k e = let z : _≡_ {A = ℕ} 0 1 = cc in absurd (omega arith)
+    only (suc f) k e = cc
+
+pub done-none : (f : ℕ) → doneOr f ≡ Done → f ≡ 0
+done-none zero e = refl
+done-none (suc k) e = let z : _≡_ {A = ℕ} 0 1 = cc in absurd (omega arith)
 
 -- ---- lengths
 

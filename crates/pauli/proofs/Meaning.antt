@@ -3,22 +3,23 @@
 use mathlib.Core.Path.{_≡_, refl, sym, ap, ap₂, _∙_}
 use mathlib.Core.Logic.{_↔_}
 use mathlib.Core.Bool.{Bool, true, false}
-use mathlib.Core.List.{List}
+use mathlib.Core.List.{List, [], _∷_}
 use Prim.Native.Nat.{ℕ, zero, suc, _+_, _*_, _%_, _<_}
 use native.Mathlib.Omega.{arith}
 use borrow.Author.Tests.{eqb-true, eqb-false}
 use lib.ListN.{length, take, replicate, length-replicate}
 use Rattle.pauli.specs.Gauss.{Gauss, _⊕_, _⊗_, minus, g0, ipow}
 use Rattle.pauli.specs.Pauli.{Pauli, I, X, Y, Z, _·_, phase, mul, phases, turn, act, actPhase, clashes}
-use Rattle.pauli.specs.Row.{Row, padMul, expo, mulRow}
+use Rattle.pauli.specs.Row.{Row, padMul, expo, mulRow, bitRow}
 use Rattle.pauli.specs.Rows.{phaseOf, commute, central, holding, countOf, pairRow, actOn, actPhaseOn}
 use Rattle.pauli.specs.Matrix.{entry, matrix, times, scaled, Same, Commute, Anticommute, onQubits, matrixOf, rowMatrix, basis, apply}
+use Rattle.pauli.proofs.Bools.{xor-same}
 use Rattle.pauli.proofs.Every.{every-at, every-all}
 use Rattle.pauli.proofs.GaussRing.{⊗-assoc, g1-⊗, ipow-add, minus-is, minus-minus, ipow-low, ipow-mod, never}
 use Rattle.pauli.proofs.Lists.{length-each}
 use Rattle.pauli.proofs.Products.{one, half, product}
 use Rattle.pauli.proofs.Phases.{phases-swap, mul-comm, act-phase, act-mul}
-use Rattle.pauli.proofs.RowLaws.{phase-I, phases-pad, pad-take, pad-mul}
+use Rattle.pauli.proofs.RowLaws.{phase-I, phases-pad, pad-take, pad-mul, bit-mul}
 use Rattle.pauli.proofs.OnQubits.{length-on, on-same, take-same, on-mul, total-on, holding-on, I-on}
 use Rattle.pauli.proofs.Vectors.{⊗-g0, ⊗-g1, sum-basis, column-is, column-here, basis-here, basis-elsewhere}
 
@@ -57,6 +58,25 @@ row-product n a b r c hr hc =
     ∙ ap (λ (x : Gauss). x ⊗ M)
     (sym (ipow-add (a .p + b .p) (phaseOf n a b))
     ∙ ipow-mod (a .p + b .p + phaseOf n a b) ((a .p + b .p + expo n a b) % 4) (omega arith))
+
+-- ---- a row by itself: its bits are cleared, its exponent is doubled
+
+phase-self : (p : Pauli) → phase p p ≡ 0
+phase-self I = refl
+phase-self X = refl
+phase-self Y = refl
+phase-self Z = refl
+
+phases-self : (l : List Pauli) → phases l l ≡ 0
+phases-self [] = refl
+phases-self (p ∷ l) = ap₂ _+_ (phase-self p) (phases-self l)
+
+pub square-bits : (n : ℕ) (a : Row) (c : ℕ) → bitRow n (mulRow n a a) c ≡ false
+square-bits n a c = bit-mul n a a c ∙ xor-same (bitRow n a c)
+
+pub square-phase : (n : ℕ) (a : Row) → mulRow n a a .p ≡ (2 * a .p) % 4
+unfolding mulRow
+square-phase n a = omega (arith, phases-self (take n (a .ps)))
 
 -- the pairwise product takes the matrices without the rows' own phases
 pub pairwise-product : (n : ℕ) (a b : Row) → Same n (times n (matrixOf n a) (matrixOf n b)) (rowMatrix n (pairRow n a b))

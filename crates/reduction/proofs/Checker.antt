@@ -11,7 +11,7 @@ use Rattle.reduction.specs.Lists.{In, All}
 use Rattle.reduction.specs.Rule.{Entry}
 use Rattle.reduction.specs.Replay.{replay}
 use Rattle.reduction.specs.Form.{ReducedForm}
-use Rattle.reduction.specs.Checker.{firstDiff, badEntry, differs, notReduced, accepted, verdictBy, verdict}
+use Rattle.reduction.specs.Checker.{firstDiff, badEntry, differs, notReduced, accepted, verdictBy, verdict, working, workingBy, firstBad}
 use Rattle.reduction.specs.Demand.{Asked, Good, Agree, Right, NamesAll, NoPhase}
 use Rattle.reduction.specs.Laws.{Laws}
 use Rattle.reduction.proofs.Lists.{all-mono, in-left, same?, none≢some}
@@ -148,6 +148,10 @@ module _ {R : Type 0} {bit : R → ℕ → Bool} {mul : R → R → R} {ph : R �
     pub bad-first : (i : ℕ) → verdict bit mul alike m order listed extra σ log claimed ≡ badEntry i → BadAt listed extra 0 i log
     unfolding verdict
     bad-first i e = first-bad listed extra 0 i log (by-bad _ _ _ i e)
+
+    pub bad-keeps : (i : ℕ) → verdict bit mul alike m order listed extra σ log claimed ≡ badEntry i → working mul listed extra σ log ≡ σ
+    unfolding verdict working workingBy
+    bad-keeps i e = ap (λ o. workingBy mul o σ log) (by-bad _ _ _ i e)
 
     -- a differing row is the first in which the full replay and the claim differ
     pub differs-first : (k : ℕ) → verdict bit mul alike m order listed extra σ log claimed ≡ differs k → All (Good listed extra) log × DiffersAt alike (replay mul σ log) claimed 0 k m

@@ -12,7 +12,7 @@ use Rattle.reduction.specs.Rule.{Entry, reduce}
 use Rattle.reduction.specs.Replay.{replay}
 use Rattle.reduction.specs.Capacity.{done, full, capped}
 use Rattle.reduction.specs.Form.{ReducedForm, reduced}
-use Rattle.reduction.specs.Checker.{firstBad, badEntry, differs, notReduced, accepted, verdict}
+use Rattle.reduction.specs.Checker.{firstBad, badEntry, differs, notReduced, accepted, verdict, working}
 use Rattle.reduction.specs.Demand.{Asked, Good, Agree, Right, NamesAll, NoPhase}
 use Rattle.reduction.specs.Laws.{Laws}
 use Rattle.reduction.proofs.Lists.{all-take}
@@ -22,7 +22,7 @@ use Rattle.reduction.proofs.Forms.{walk-iff-form, walk-pivots, test-iff
 use Rattle.reduction.proofs.Bounds.{run-length, run-t-listed, run-t-order, run-t-columns}
 use Rattle.reduction.proofs.Stop.{run-fits, run-stops, full-long}
 use Rattle.reduction.proofs.Entries.{BadAt, none-bad}
-use Rattle.reduction.proofs.Checker.{DiffersAt, yes→right, right→yes, bad-first, differs-first, not-reduced, right-bits, right-phases}
+use Rattle.reduction.proofs.Checker.{DiffersAt, yes→right, right→yes, bad-first, bad-keeps, differs-first, not-reduced, right-bits, right-phases}
 
 -- ---- the rule: any rows with bits and a product
 
@@ -99,6 +99,10 @@ module _ {R : Type 0} {bit : R → ℕ → Bool} {mul : R → R → R} {ph : R �
   -- The other verdicts: the first bad entry; else the first row in which the full replay and the claim differ; else all is right but the form.
   pub bad-entry-is-first : (log : List Entry) (claimed : ℕ → R) (i : ℕ) → verdict bit mul alike m order listed extra σ log claimed ≡ badEntry i → BadAt listed extra 0 i log
   bad-entry-is-first = bad-first laws tells asked σ
+
+  -- At a bad entry the working rows are the starting rows; else they hold the full replay.
+  pub bad-entry-keeps : (log : List Entry) (claimed : ℕ → R) (i : ℕ) → verdict bit mul alike m order listed extra σ log claimed ≡ badEntry i → working mul listed extra σ log ≡ σ
+  bad-entry-keeps = bad-keeps laws tells asked σ
 
   pub differing-row-is-first : (log : List Entry) (claimed : ℕ → R) (k : ℕ) → verdict bit mul alike m order listed extra σ log claimed ≡ differs k
       → All (Good listed extra) log × DiffersAt alike (replay mul σ log) claimed 0 k m

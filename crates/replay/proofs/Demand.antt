@@ -2,7 +2,7 @@
 -- that the contract leaves no choice. Assumes nothing.
 use mathlib.Core.Path.{_≡_, refl, sym, ap, _∙_, subst}
 use mathlib.Core.Logic.{_↔_, _⊎_, ⊎-elim}
-use mathlib.Core.Bool.{false, cond}
+use mathlib.Core.Bool.{Bool, false, cond}
 use mathlib.Core.List.{List, [], _∷_, _++_}
 use mathlib.Core.Option.{Option, none, some}
 use Prim.Native.Nat.{ℕ, zero, suc, _+_, _≤_, _<_}
@@ -11,7 +11,10 @@ use borrow.Author.Tests.{ne-eqb}
 use lib.Dec.{eqb}
 use Rattle.pauli.specs.Row.{Row, mulRow, bitRow, sameRow}
 use Rattle.encoding.specs.Limits.{wordsOf}
-use Rattle.encoding.specs.Set.{Mem, count, rowsIn, rowsOf, Valid}
+use Rattle.encoding.specs.Set.{Mem, count, rowsIn, rowsOf, lay, Valid}
+use Rattle.encoding.specs.Refusals.{fault, leftOr}
+use Rattle.encoding.proofs.Faults.{First, refused-iff}
+use Rattle.encoding.proofs.Memory.{lay-back}
 use Rattle.encoding.proofs.Sets.{same-words, same-bytes}
 use Rattle.reduction.specs.Lists.{In, All}
 use Rattle.reduction.specs.Rule.{Entry, mulAt}
@@ -26,7 +29,7 @@ use Rattle.reduction.proofs.Lists.{in-left}
 use Rattle.reduction.proofs.Entries.{BadAt}
 use Rattle.reduction.proofs.Checker.{DiffersAt}
 use Rattle.reduction.proofs.PauliRows.{rows-laws, rows-tell}
-use Rattle.replay.specs.Check.{Task, Claim, Passed, Checked, checkFault, verdictOn, given, givenOr}
+use Rattle.replay.specs.Check.{Task, Claim, Passed, Checked, checkFault, verdictOn, workingFor, given, givenOr}
 use Rattle.replay.specs.Demand.{RightClaim, EveryColumn, NoPhaseAtStart}
 use Rattle.replay.specs.declared.Verdict.{Verdict}
 use Rattle.replay.specs.declared.Verdict.the-variants.{BadEntry, Differs, NotReduced, Yes, Refused}
@@ -90,6 +93,15 @@ module _ {T : Task} {L : Claim} {r : Verdict} {left : Mem} (c : Checked T L r le
       let y = on-verdict (badEntry i) e in
       theorems.bad-entry-is-first (rows-laws (T .n)) (rows-tell (T .n)) (c .passed (y .0) .of-task .asked) (rowsOf (T .n) (T .start)) (pairs (L .log)) (rowsOf (T .n) (L .rows)) i (y .1)
 
+  -- At a bad entry the working rows are unchanged.
+  pub bad-left : (i : ℕ) → r ≡ BadEntry i → left ≡ T .start
+  bad-left i e =
+      let y = on-verdict (badEntry i) e in
+      c .rows ∙ ap (λ k. leftOr k (T .start) (workingFor T L)) (y .0)
+      ∙ ap (lay (T .n) (count (T .start)))
+      (theorems.bad-entry-keeps (rows-laws (T .n)) (rows-tell (T .n)) (c .passed (y .0) .of-task .asked) (rowsOf (T .n) (T .start)) (pairs (L .log)) (rowsOf (T .n) (L .rows)) i (y .1))
+      ∙ lay-back (T .n) (wordsOf (T .n)) (c .passed (y .0) .of-task .sound .valid)
+
   pub differing-row-is-first : (k : ℕ) → r ≡ Differs k
       → All (Good (T .listed) (T .extra)) (pairs (L .log))
       × DiffersAt (sameRow (T .n)) (replay (mulRow (T .n)) (rowsOf (T .n) (T .start)) (pairs (L .log))) (rowsOf (T .n) (L .rows)) 0 k (count (T .start))
@@ -149,6 +161,16 @@ module _ {T : Task} {A B : Claim} {left left′ : Mem} (c : Checked T A Yes left
     where
       small : (j : ℕ) → rowsIn (T .n) (wordsOf (T .n)) (T .start) j .p < 4
       small j = phase-small (a-set .of-task .sound .valid) j
+
+-- ---- refusals: the number k + 1 is given exactly when its line of the table fits and none before it does
+
+pub verdict-refused : (v : checker.Verdict) (ts : List Bool) (k : ℕ) → (givenOr (fault ts) v ≡ Refused (suc k)) ↔ First ts k
+unfolding back
+verdict-refused v = refused-iff Refused (λ f. givenOr f v) (λ k. refl) only
+  where
+    only : (f k : ℕ) → givenOr f v ≡ Refused (suc k) → f ≡ suc k
+    only zero k e = absurd (let p : none ≡ some v = sym (ap back e) ∙ back-given v in let z : _≡_ {A = ℕ} 0 1 = cc in omega arith)
+    only (suc f) k e = cc
 
 -- ---- the contract leaves no choice: any two outcomes that it allows are the same
 

@@ -5,6 +5,7 @@ use Prim.Native.Nat.{ℕ}
 use lib.Ieee.{Float}
 use Rattle.encoding.specs.declared.Answer.{Answer}
 use Rattle.encoding.specs.declared.Answer.the-variants as answer
+use Rattle.terms.specs.Calls.{reducedNumber}
 use Rattle.terms.specs.declared.Canonicalized.{Canonicalized}
 use Rattle.terms.specs.declared.Canonicalized.the-variants as reduced
 use Rattle.mat_elem_float.specs.declared.Element.{Element}
@@ -26,11 +27,6 @@ abbrev pub Number : ℕ → Answer → Type 0
 Number r a = r ≡ numberOf a
 
 -- ---- a reduction: the entry count and t, the capacity (refusal 8) in the place of the count; what is not given stays as it was
-
-abbrev pub reducedNumber : Canonicalized → ℕ
-reducedNumber (reduced.Done e t) = 0
-reducedNumber (reduced.Full k) = 8
-reducedNumber (reduced.Refused k) = k
 
 abbrev pub entriesOr : ℕ → Canonicalized → ℕ
 entriesOr old (reduced.Done e t) = e

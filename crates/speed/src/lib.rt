@@ -2,9 +2,9 @@
 ghost use mathlib.Core.Path.{_≡_};
 ghost use Rattle.encoding.specs.Set.{mem};
 ghost use Rattle.cmpnt_list.specs.Calls.{CompatibilityMatrix, MulPairwise};
-ghost use Rattle.terms.specs.Calls.{Multiplies, ReducesAll};
+ghost use Rattle.terms.specs.Calls.{Multiplies, ReducesAll, reducedNumber};
 ghost use Rattle.mat_elem_float.specs.Product.{MatElem};
-ghost use Rattle.speed.specs.Told.{Told, Number, numberOf, Counted, reducedNumber, entriesOr, pivotsOr, Parted, elementNumber, realOr, imagOr};
+ghost use Rattle.speed.specs.Told.{Told, Number, numberOf, Counted, entriesOr, pivotsOr, Parted, elementNumber, realOr, imagOr};
 use encoding::Answer;
 use mat_elem_float::Element;
 use pauli::RowNumber;

@@ -32,7 +32,7 @@ use Rattle.terms.specs.declared.Canonicalized.the-variants.{Done, Full, 
 use Rattle.terms.specs.Refused.{listTests, reduceTests, Reducible}
 use Rattle.terms.specs.Leaves.{mulIn}
 use Rattle.terms.specs.Work.{Below, runOf, outcome, start, Does, BothIn, ListsIn}
-use Rattle.terms.specs.Calls.{Multiplies, answerOf, rowsLeft, entriesLeft, Leaves, outcomeOf, wholeOutcome, upTo}
+use Rattle.terms.specs.Calls.{Multiplies, answerOf, numberFor, rowsLeft, entriesLeft, Leaves, outcomeOf, wholeOutcome, upTo}
 use Rattle.terms.proofs.Scans.{asked-of}
 use Rattle.terms.proofs.RowView.{mul-view}
 
@@ -91,6 +91,7 @@ reduce-refused n f zero out M log e ne = absurd (ne refl)
 reduce-refused n f (suc g) out M log e ne =
     record {
       answer = ap (λ k. answerOf k (capacity log) out) e;
+      number = ap (λ k. numberFor k out) e;
       rows = ap (λ k. leftOr k M (lay n (count M) (rowsLeft out))) e;
       entries = ap (λ k. leftOr k log (logged (entriesLeft out) log)) e;
     }
@@ -123,6 +124,7 @@ module _ (n : ℕ) (order listed extra : List ℕ) {M₀ : Mem} {log₀ : List �
       let e : done (runOf n M log s) ≡ capped (bitRow n) (mulRow n) (capacity log₀) order listed extra (rowsOf n M₀) = sym (ap (λ b. outcome b (runOf n M log s)) q) ∙ whole in
       record {
         answer = ap (λ k. Done k (s .t)) (sym there) ∙ ap (answerOf 0 (capacity log₀)) e;
+        number = ap (numberFor 0) e;
         rows = rows-laid ∙ ap (λ o. lay n (count M₀) (rowsLeft o)) e;
         entries = log-laid ∙ ap (λ o. logged (entriesLeft o) log₀) e;
       }
@@ -134,6 +136,7 @@ module _ (n : ℕ) (order listed extra : List ℕ) {M₀ : Mem} {log₀ : List �
       = sym (ap (λ b. outcome b (runOf n M log s)) q) ∙ whole in
       record {
         answer = ap (λ k. Full (k / 2)) (L .log-len) ∙ ap (answerOf 0 (capacity log₀)) e;
+        number = ap (numberFor 0) e;
         rows = rows-laid ∙ ap (λ o. lay n (count M₀) (rowsLeft o)) e;
         entries = log-laid ∙ ap (λ o. logged (entriesLeft o) log₀) e;
       }

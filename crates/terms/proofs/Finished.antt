@@ -1,11 +1,13 @@
 -- What a finished reduction leaves, read off the call's contract alone: the order and the lists were taken, the memory holds the rule's rows, and the log
--- cut to its entry count holds the rule's entries. Assumes nothing.
-use Prim.Native.Nat.{ℕ, zero, suc, _+_, _*_, _<_, _≤_}
+-- cut to its entry count holds the rule's entries; the bounds of count and t; when the log is full. Assumes nothing.
+use Prim.Native.Nat.{ℕ, zero, suc, _+_, _*_, _<_, _≤_, min}
 use native.Mathlib.Decide.{decLe}
+use native.Mathlib.Nat.{le-min, mul-le-mul-right}
 use native.Mathlib.Omega.{arith}
-use mathlib.Core.Path.{_≡_, refl, sym, ap, _∙_, subst}
+use mathlib.Core.Path.{_≡_, refl, sym, ap, ap₂, _∙_, subst, subst₂}
+use mathlib.Core.Logic.{_↔_}
 use mathlib.Core.Bool.{Bool}
-use mathlib.Core.List.{List, [], _∷_}
+use mathlib.Core.List.{List, [], _∷_, _++_}
 use lib.ListN.{length, take}
 use Rattle.pauli.specs.Pauli.{Pauli, _·_}
 use Rattle.pauli.specs.Row.{Row, padMul, mulRow, bitRow}
@@ -14,9 +16,9 @@ use Rattle.pauli.proofs.RowLaws.{pad-mul}
 use Rattle.encoding.specs.Limits.{wordsOf}
 use Rattle.encoding.specs.Set.{Mem, count, rowsIn, rowsOf, lay, Valid, Sound}
 use Rattle.encoding.specs.Refusals.{fault, setTests, leftOr}
-use Rattle.encoding.proofs.Faults.{joined-fault, least-none}
+use Rattle.encoding.proofs.Faults.{joined-fault, least-none, First, refused-iff}
 use Rattle.encoding.proofs.Memory.{Proper, row-count, count-lay, read-lay, valid-lay}
-use Rattle.reduction.specs.Lists.{All}
+use Rattle.reduction.specs.Lists.{All, different}
 use Rattle.reduction.specs.Rule.{Entry, Run, mulAt, reduce}
 use Rattle.reduction.specs.Replay.{replay}
 use Rattle.reduction.specs.Log.{pairs, logged, capacity}
@@ -26,8 +28,10 @@ use Rattle.reduction.proofs.Lists.{all-mono, in-left}
 use Rattle.reduction.proofs.Run.{mulAt-ind}
 use Rattle.reduction.proofs.Log.{pairs-units, cut-logged}
 use Rattle.reduction.proofs.Stop.{run-fits, run-stops}
-use Rattle.reduction.proofs.Theorems.{log-replays, entries-good}
-use Rattle.terms.specs.declared.Canonicalized.the-variants.{Done}
+use Rattle.reduction.proofs.Theorems.{log-replays, entries-good, entries-most, pivots-listed, pivots-columns, full-exactly, log-full}
+use Rattle.reduction.proofs.PauliRows.{rows-laws}
+use Rattle.terms.specs.declared.Canonicalized.{Canonicalized}
+use Rattle.terms.specs.declared.Canonicalized.the-variants.{Done, Full, Refused}
 use Rattle.terms.specs.Refused.{listTests, reduceTests}
 use Rattle.terms.specs.Calls.{answerOf, rowsLeft, entriesLeft, outcomeOf, Reduces}
 use Rattle.terms.proofs.Scans.{asked-of}
@@ -37,7 +41,7 @@ use Rattle.terms.proofs.Scans.{asked-of}
 pad-long : (n : ℕ) (a b : List Pauli) → length a ≡ n → length b ≡ n → length (padMul a b) ≡ n
 pad-long n a b p q = ap length (pad-mul a b (q ∙ sym p)) ∙ length-each _·_ a b (q ∙ sym p) ∙ p
 
-proper-mul : {n m : ℕ} {σ : ℕ → Row} (a b : ℕ) → a < m → b < m → Proper n m σ → Proper n m (mulAt (mulRow n) σ a b)
+pub proper-mul : {n m : ℕ} {σ : ℕ → Row} (a b : ℕ) → a < m → b < m → Proper n m σ → Proper n m (mulAt (mulRow n) σ a b)
 unfolding mulRow
 proper-mul {n} {m} {σ} a b ha hb P =
     record {
@@ -79,6 +83,10 @@ done-run bit mul′ room order listed extra σ s e = go (decLe (length (reduce b
     go (yes h) = let q = run-fits bit mul′ room order listed extra σ h in cc
     go (no h) = absurd (let q = run-stops bit mul′ room order listed extra σ (omega arith) in let z : _≡_ {A = ℕ} 0 1 = cc in omega arith)
 
+reduce-asked : (n : ℕ) (M : Mem) (order listed extra : List ℕ) → fault (reduceTests n M order listed extra) ≡ 0 → Asked (n + n) (count M) order listed extra
+reduce-asked n M order listed extra z =
+    asked-of n (count M) order listed extra (least-none (fault (setTests n M)) (fault (listTests n (count M) order listed extra)) (joined-fault (setTests n M) (listTests n (count M) order listed extra) ∙ z) .1)
+
 pub finished : (n : ℕ) (order listed extra : List ℕ) (M : Mem) (log : List ℕ) {M′ : Mem} {log′ : List ℕ} (k t : ℕ) → Reduces n order listed extra M log M′ log′ (Done k t)
     → Finished n order listed extra M M′ log′ k t
 finished n order listed extra M log {M′} {log′} k t L =
@@ -89,11 +97,10 @@ finished n order listed extra M log {M′} {log′} k t L =
     let s = d .1 .0 in
     let e : out ≡ done s = d .1 .1 in
     let r : reduce (bitRow n) (mulRow n) order listed extra (rowsOf n M) ≡ s = done-run (bitRow n) (mulRow n) (capacity log) order listed extra (rowsOf n M) s e in
-    let p = least-none (fault (setTests n M)) (fault (listTests n (count M) order listed extra)) (joined-fault (setTests n M) (listTests n (count M) order listed extra) ∙ z) in
     let rows : M′ ≡ lay n (count M) (s .rows) = L .rows ∙ ap (λ j. leftOr j M (lay n (count M) (rowsLeft out))) z ∙ ap (λ o. lay n (count M) (rowsLeft o)) e in
     let log-is : log′ ≡ logged (s .log) log = L .entries ∙ ap (λ j. leftOr j log (logged (entriesLeft out) log)) z ∙ ap (λ o. logged (entriesLeft o) log) e in
     record {
-      asked = asked-of n (count M) order listed extra (p .1);
+      asked = reduce-asked n M order listed extra z;
       no-fault = z;
       entries = d .1 .2 ∙ ap (λ (q : Run Row). length (q .log)) (sym r);
       pivots = d .1 .3 ∙ ap (λ (q : Run Row). q .t) (sym r);
@@ -131,3 +138,67 @@ module _ {n : ℕ} {order listed extra : List ℕ} {M M′ : Mem} {log′ : List
         few-qubits = s .few-qubits;
         few-rows = omega (arith, F .as-many, s .few-rows);
       }
+
+-- ---- the bounds
+
+module _ (n : ℕ) (order listed extra : List ℕ) (M : Mem) (log : List ℕ) {M′ : Mem} {log′ : List ℕ} where
+  -- "The count is at most t × d, where d is the number of different rows in the two lists taken together"
+  pub count-most : (k t : ℕ) → Reduces n order listed extra M log M′ log′ (Done k t) → k ≤ t * different (listed ++ extra)
+  count-most k t L =
+      let F = finished n order listed extra M log k t L in
+      subst₂ (λ a b. a ≤ b * different (listed ++ extra)) (sym (F .entries)) (sym (F .pivots)) (entries-most (rows-laws n) (F .asked) (rowsOf n M))
+
+  -- "t is at most the smaller of 2n and the number of listed rows"
+  pub pivots-most : (k t : ℕ) → Reduces n order listed extra M log M′ log′ (Done k t) → (t ≤ n + n) × (t ≤ length listed)
+  pivots-most k t L =
+      let F = finished n order listed extra M log k t L in
+      (subst (λ j. j ≤ n + n) (sym (F .pivots)) (pivots-columns (rows-laws n) (F .asked) (rowsOf n M)), subst (λ j. j ≤ length listed) (sym (F .pivots)) (pivots-listed (rows-laws n) (F .asked) (rowsOf n M)))
+
+-- ---- refusal 8
+
+-- which answer it was
+full-only : (f room : ℕ) (out : Reduced Row) (c : ℕ) → Full c ≡ answerOf f room out → (f ≡ 0) × ((l : List Entry) × (σ : ℕ → Row) × (out ≡ full l σ))
+full-only zero room (done s) c e = absurd (let z : _≡_ {A = ℕ} 0 1 = cc in omega arith)
+full-only zero room (full l σ) c e = (refl, (l, σ, refl))
+full-only (suc f) room out c e = absurd (let z : _≡_ {A = ℕ} 0 1 = cc in omega arith)
+
+module _ (n : ℕ) (order listed extra : List ℕ) (M : Mem) (log : List ℕ) {M′ : Mem} {log′ : List ℕ} {r : Canonicalized} (L : Reduces n order listed extra M log M′ log′ r) where
+  -- the log is full exactly when nothing is refused before the work, and the rule needs more entries than fit
+  pub full-when : (r ≡ Full (capacity log)) ↔ ((fault (reduceTests n M order listed extra) ≡ 0) × (capacity log < length (reduce (bitRow n) (mulRow n) order listed extra (rowsOf n M) .log)))
+  full-when = (
+    λ e.
+        let d = full-only (fault (reduceTests n M order listed extra)) (capacity log) (outcomeOf n order listed extra M log) (capacity log) (sym e ∙ L .answer) in
+        (d .0, full-exactly (bitRow n) (mulRow n) order listed extra (rowsOf n M) (capacity log) .0 (d .1)),
+    λ h.
+        L .answer ∙ ap₂ (λ f o. answerOf f (capacity log) o) (h .0) (log-full (bitRow n) (mulRow n) order listed extra (rowsOf n M) (capacity log) (h .1)),
+  )
+
+  -- it then holds exactly the first entries that fit, and the rows are those after these
+  pub full-leaves : r ≡ Full (capacity log) → let es = take (capacity log) (reduce (bitRow n) (mulRow n) order listed extra (rowsOf n M) .log) in
+      ((M′ ≡ lay n (count M) (replay (mulRow n) (rowsOf n M) es)) × (log′ ≡ logged es log))
+  full-leaves e =
+      let h = full-when .0 e in
+      let o = log-full (bitRow n) (mulRow n) order listed extra (rowsOf n M) (capacity log) (h .1) in (
+        L .rows ∙ ap₂ (λ f o. leftOr f M (lay n (count M) (rowsLeft o))) (h .0) o,
+        L .entries ∙ ap₂ (λ f o. leftOr f log (logged (entriesLeft o) log)) (h .0) o,
+      )
+
+  -- room for (the smaller of 2n and the listed rows) times d entries is always enough
+  pub log-enough : min (n + n) (length listed) * different (listed ++ extra) ≤ capacity log → r ≡ Full (capacity log) → ⊥
+  log-enough room e =
+      let h = full-when .0 e in
+      let σ = rowsOf n M in
+      let A = reduce-asked n M order listed extra (h .0) in
+      let s = reduce (bitRow n) (mulRow n) order listed extra σ in
+      let t-most : s .t ≤ min (n + n) (length listed) = le-min (pivots-columns (rows-laws n) A σ) (pivots-listed (rows-laws n) A σ) in
+      omega (arith, h .1, entries-most (rows-laws n) A σ, mul-le-mul-right (different (listed ++ extra)) t-most, room)
+
+-- ---- the numbers that are tested first: k + 1 is given exactly when its line of the table fits and none before it does
+
+pub canonicalized-refused : (room : ℕ) (out : Reduced Row) (ts : List Bool) (k : ℕ) → (answerOf (fault ts) room out ≡ Refused (suc k)) ↔ First ts k
+canonicalized-refused room out = refused-iff Refused (λ f. answerOf f room out) (λ k. refl) (only out)
+  where
+    only : (o : Reduced Row) (f k : ℕ) → answerOf f room o ≡ Refused (suc k) → f ≡ suc k
+    only (done s) zero k e = let z : _≡_ {A = ℕ} 0 1 = cc in absurd (omega arith)
+    only (full l σ) zero k e = let z : _≡_ {A = ℕ} 0 1 = cc in absurd (omega arith)
+    only o (suc f) k e = cc

@@ -8,3 +8,4 @@ pub mod Answers
 pub mod Finished
 pub mod Whole
 pub mod Determined
+pub mod Meaning

@@ -29,6 +29,20 @@ answerOf zero room (done s) = Done (length (s .log)) (s .t)
 answerOf zero room (full l σ) = Full room
 answerOf (suc k) room out = Refused (suc k)
 
+-- document 01's number of each answer, 0 for done; and the number of the whole call: what is tested first, then 8 in the work
+abbrev pub logFull : ℕ
+logFull = 8
+
+abbrev pub reducedNumber : Canonicalized → ℕ
+reducedNumber (Done e t) = 0
+reducedNumber (Full room) = logFull
+reducedNumber (Refused k) = k
+
+abbrev pub numberFor : ℕ → Reduced Row → ℕ
+numberFor zero (done s) = 0
+numberFor zero (full l σ) = logFull
+numberFor (suc k) out = suc k
+
 -- the rows and the entries that a reducer ends with
 abbrev pub rowsLeft : Reduced Row → ℕ → Row
 rowsLeft (done s) = s .rows
@@ -41,6 +55,7 @@ entriesLeft (full l σ) = l
 -- what is left where f is the first number that fits, and out what the rule comes to
 pub record Leaves (n f : ℕ) (out : Reduced Row) (M : Mem) (log : List ℕ) (M′ : Mem) (log′ : List ℕ) (r : Canonicalized) : Type 0 where
   pub answer : r ≡ answerOf f (capacity log) out
+  pub number : reducedNumber r ≡ numberFor f out
   pub rows : M′ ≡ leftOr f M (lay n (count M) (rowsLeft out))
   pub entries : log′ ≡ leftOr f log (logged (entriesLeft out) log)
 

@@ -1,0 +1,55 @@
+-- `imul` in the words of document 01: row a becomes the product of the matrices, and no other row changes. Assumes nothing.
+use mathlib.Core.Path.{_≡_, refl, sym, ap, _∙_, subst}
+use mathlib.Core.Bool.{cond, _||_}
+use Prim.Native.Nat.{ℕ, _*_, _≤_, _<_}
+use native.Mathlib.Omega.{arith}
+use borrow.Author.Tests.{leb-false, eq-eqb, ne-eqb}
+use Rattle.pauli.specs.Row.{Row, mulRow}
+use Rattle.pauli.specs.Matrix.{times, Same, rowMatrix}
+use Rattle.pauli.proofs.Meaning.{row-product}
+use Rattle.encoding.specs.Limits.{wordsOf}
+use Rattle.encoding.specs.Set.{Mem, count, rowsOf, lay}
+use Rattle.encoding.specs.Refusals.{fault, setTests, numberTests, rowsTests, tooLarge, leftOr}
+use Rattle.encoding.specs.declared.Answer.the-variants.{Done}
+use Rattle.encoding.proofs.Faults.{joined-fault, least-none, not-large, number-is, done-none}
+use Rattle.encoding.proofs.Scan.{none-of}
+use Rattle.encoding.proofs.Memory.{Proper, read-lay}
+use Rattle.encoding.proofs.Sets.{read-proper}
+use Rattle.reduction.specs.Rule.{mulAt}
+use Rattle.terms.specs.Calls.{Multiplies}
+use Rattle.terms.proofs.Finished.{proper-mul}
+
+module _ (n a b : ℕ) {M M′ : Mem} (c : Multiplies n a b M M′ Done) where
+  no-fault : fault (rowsTests n M a b) ≡ 0
+  no-fault = done-none (fault (rowsTests n M a b)) (sym (c .answer))
+
+  inside : (a < count M) × (b < count M)
+  inside =
+      let large = tooLarge (count M) a || tooLarge (count M) b in
+      let p = least-none (fault (setTests n M)) (fault (numberTests large)) (joined-fault (setTests n M) (numberTests large) ∙ no-fault) in
+      let q = none-of (tooLarge (count M) a) (tooLarge (count M) b) (not-large 5 large (number-is large ∙ p .1)) in
+      (leb-false (count M) a (q .0), leb-false (count M) b (q .1))
+
+  proper : Proper n (count M) (mulAt (mulRow n) (rowsOf n M) a b)
+  proper =
+      let large = tooLarge (count M) a || tooLarge (count M) b in
+      let p = least-none (fault (setTests n M)) (fault (numberTests large)) (joined-fault (setTests n M) (numberTests large) ∙ no-fault) in
+      proper-mul a b (inside .0) (inside .1) (read-proper n M (p .0))
+
+  now : (k : ℕ) → k < count M → rowsOf n M′ k ≡ mulAt (mulRow n) (rowsOf n M) a b k
+  now k h =
+      let wide : n ≤ wordsOf n * 64 = omega arith in
+      ap (λ N. rowsOf n N k) (c .rows ∙ ap (λ f. leftOr f M (lay n (count M) (mulAt (mulRow n) (rowsOf n M) a b))) no-fault)
+      ∙ read-lay n (wordsOf n) (count M) (mulAt (mulRow n) (rowsOf n M) a b) wide k h (proper .long k h)
+
+  -- row a holds the product, phases and all
+  pub imul-row : rowsOf n M′ a ≡ mulRow n (rowsOf n M a) (rowsOf n M b)
+  unfolding mulAt
+  imul-row = now a (inside .0) ∙ ap (λ t. cond t (mulRow n (rowsOf n M a) (rowsOf n M b)) (rowsOf n M a)) (eq-eqb a a refl)
+
+  pub imul-meaning : Same n (times n (rowMatrix n (rowsOf n M a)) (rowMatrix n (rowsOf n M b))) (rowMatrix n (rowsOf n M′ a))
+  imul-meaning = subst (λ (r : Row). Same n (times n (rowMatrix n (rowsOf n M a)) (rowMatrix n (rowsOf n M b))) (rowMatrix n r)) (sym imul-row) (row-product n (rowsOf n M a) (rowsOf n M b))
+
+  pub imul-others : (k : ℕ) → k < count M → (k ≡ a → ⊥) → rowsOf n M′ k ≡ rowsOf n M k
+  unfolding mulAt
+  imul-others k h ne = now k h ∙ ap (λ t. cond t (mulRow n (rowsOf n M a) (rowsOf n M b)) (rowsOf n M k)) (ne-eqb k a ne)
