@@ -92,15 +92,15 @@ module _ (n : ℕ) (xs zs : List ℕ) (re im : List Float) (bra ket : ℕ) (fr :
       (plain re fr (w .0) k (omega (arith, s .re-long)), plain im fi (w .1) k (omega (arith, s .im-long)))
 
   -- every partial sum of a call that 1 to 11 do not refuse
-  pub sums : (z : Bool) → early ≡ 0 → (m : ℕ) → m ≤ length xs → (productTo z xs zs re im t ket m ≡ sumTo xs zs re im t ket m) × BothLive (sumTo xs zs re im t ket m)
+  pub sums : (z : ℕ → Bool) → early ≡ 0 → (m : ℕ) → m ≤ length xs → (productTo z xs zs re im t ket m ≡ sumTo xs zs re im t ket m) × BothLive (sumTo xs zs re im t ket m)
   sums z e m l = same-sums z xs zs re im t ket m (λ k h. plains e k (lt-of-lt-of-le h l))
 
   -- the sums never become -0
   pub never-minus-zero : early ≡ 0 → (m : ℕ) → m ≤ length xs → T (notMinusZero (sumTo xs zs re im t ket m .re)) × T (notMinusZero (sumTo xs zs re im t ket m .im))
-  never-minus-zero e m l = (sums false e m l .1 .0 .not-minus, sums false e m l .1 .1 .not-minus)
+  never-minus-zero e m l = (sums (λ _. false) e m l .1 .0 .not-minus, sums (λ _. false) e m l .1 .1 .not-minus)
 
   -- the answer has the bits of the one by products
-  pub by-product : (z : Bool) → elementOf n xs zs re im bra ket ≡ productOf z n xs zs re im bra ket
+  pub by-product : (z : ℕ → Bool) → elementOf n xs zs re im bra ket ≡ productOf z n xs zs re im bra ket
   unfolding elementOf productOf overflows
   by-product z = rw (number-is n xs zs re im bra ket (someBelow (suc (length xs)) (λ k. bad (sumTo xs zs re im t ket k))), number-is n xs zs re im bra ket (someBelow (suc (length xs)) (λ k. bad (productTo z xs zs re im t ket k)))) (go early refl)
     where

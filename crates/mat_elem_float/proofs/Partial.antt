@@ -56,7 +56,7 @@ same-add x y z l n p = go (finite x) refl
 abbrev pub BothLive : Complex → Type 0
 BothLive c = Live (c .re) × Live (c .im)
 
-module _ (z : Bool) (xs zs : List ℕ) (re im : List Float) (t ket : ℕ) where
+module _ (z : ℕ → Bool) (xs zs : List ℕ) (re im : List Float) (t ket : ℕ) where
   pub same-sums : (n : ℕ) → ((k : ℕ) → k < n → Plain (getD re k nan) × Plain (getD im k nan)) → (productTo z xs zs re im t ket n ≡ sumTo xs zs re im t ket n) × BothLive (sumTo xs zs re im t ket n)
   unfolding sumOver
   same-sums zero h = (refl, (zero-live, zero-live))
@@ -66,7 +66,7 @@ module _ (z : Bool) (xs zs : List ℕ) (re im : List Float) (t ket : ℕ) where
       let k = exponentOf (getD xs n 0) (getD zs n 0) ket in
       let a = getD re n nan in
       let b = getD im n nan in
-      let tn = times-near z a b (w .0) (w .1) k in
+      let tn = times-near (z k) a b (w .0) (w .1) k in
       let tp = turned-plain a b (w .0) (w .1) k in
       go (inBlock xs t n) (productAt z xs zs re im ket n) (termAt xs zs re im ket n) (tn .0) (tn .1) (tp .0) (tp .1) _ _ (ih .0) (ih .1)
     where

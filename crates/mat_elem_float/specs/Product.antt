@@ -1,5 +1,5 @@
 -- Document 01, "this has the bits of complex multiplication": the sum as the Rust has it, each coefficient times (1,0), (0,1), (-1,0) or (0,-1), whatever
--- the sign of that 0; and what is promised of the call. Assumes nothing.
+-- the signs of these 0s, each exponent having its own; and what is promised of the call. Assumes nothing.
 use mathlib.Core.Bool.{Bool, true, false, not}
 use mathlib.Core.List.{List, [], _∷_, _++_}
 use mathlib.Core.Path.{_≡_}
@@ -38,15 +38,15 @@ unit z (suc zero) = complex (nilF z) (oneF false)
 unit z (suc (suc zero)) = complex (oneF true) (nilF z)
 unit z (suc (suc (suc k))) = complex (nilF z) (oneF true)
 
--- what term i adds
-abbrev pub productAt : Bool → List ℕ → List ℕ → List Float → List Float → ℕ → ℕ → Complex
-productAt z xs zs re im ket i = times (coefficient re im i) (unit z (exponentOf (getD xs i 0) (getD zs i 0) ket))
+-- what term i adds; z gives the sign for each exponent
+abbrev pub productAt : (ℕ → Bool) → List ℕ → List ℕ → List Float → List Float → ℕ → ℕ → Complex
+productAt z xs zs re im ket i = let k = exponentOf (getD xs i 0) (getD zs i 0) ket in times (coefficient re im i) (unit (z k) k)
 
-abbrev pub productTo : Bool → List ℕ → List ℕ → List Float → List Float → ℕ → ℕ → ℕ → Complex
+abbrev pub productTo : (ℕ → Bool) → List ℕ → List ℕ → List Float → List Float → ℕ → ℕ → ℕ → Complex
 productTo z xs zs re im t ket n = sumOver (inBlock xs t) plus (complex plusZero plusZero) (productAt z xs zs re im ket) n
 
 -- the answer with the products' partial sums and sum
-unfoldable pub productOf : Bool → ℕ → List ℕ → List ℕ → List Float → List Float → ℕ → ℕ → Element
+unfoldable pub productOf : (ℕ → Bool) → ℕ → List ℕ → List ℕ → List Float → List Float → ℕ → ℕ → Element
 productOf z n xs zs re im bra ket =
     element
     (fault (termTests n xs zs (length re) (length im) bra ket ++ wild re im ∷ someBelow (suc (length xs)) (λ k. not (bothFinite (productTo z xs zs re im (bitXor bra ket) ket k))) ∷ []))
@@ -64,5 +64,5 @@ notMinusZero (fin true (suc m) e) = true
 -- the whole of the call: its answer, by turns; that this has the bits of the one by products; and that no part of a sum is -0
 pub record MatElem (n : ℕ) (xs zs : List ℕ) (re im : List Float) (bra ket : ℕ) (r : Element) : Type 0 where
   pub answer : r ≡ elementOf n xs zs re im bra ket
-  pub by-products : (z : Bool) → r ≡ productOf z n xs zs re im bra ket
+  pub by-products : (z : ℕ → Bool) → r ≡ productOf z n xs zs re im bra ket
   pub never-minus-zero : (a b : Float) → r ≡ Sum a b → T (notMinusZero a) × T (notMinusZero b)

@@ -4,3 +4,4 @@ pub mod RowLaws
 pub mod PartLaws
 pub mod InPlace
 pub mod ActLaws
+pub mod Determined

@@ -9,7 +9,8 @@ use native.Mathlib.Omega.{arith}
 use lib.Arith.{lt-of-le-ne}
 use lib.ListN.{length, take, drop}
 use lib.Seq.{length-take-le, take-all, take-at, drop-at, take-take, drop-drop}
-use borrow.Rule.Slice.PartMut.{postOf, putMid, same-len-mid, take-put, drop-put}
+use native.Mathlib.Nat.{add-sub-cancel-left}
+use borrow.Rule.Slice.PartMut.{postOf, putMid, put-same, same-len-mid, take-put, drop-put}
 use Rattle.encoding.proofs.Parts.{row-end, length-part}
 use Rattle.pauli.specs.Pauli.{Pauli, hasX, hasZ, mul, phases, act, actPhase}
 use Rattle.encoding.specs.Words.{unpack, unbits, pack}
@@ -35,6 +36,17 @@ outside-put a e xs ys h k l =
       before = take-put a (e - a) xs ys (omega arith);
       after = drop-put a e xs ys h k l;
     }
+
+-- words whose outside is as it was
+pub put-is : (s w : ℕ) {old new : List ℕ} → Outside s (s + w) old new → new ≡ putMid s w old (part s (s + w) new)
+put-is s w {old} {new} o =
+    sym (put-same s w new)
+    ∙ ap₂ (λ u v. u ++ (take w (drop s new) ++ v)) (o .before) (drop-drop w s new ∙ o .after ∙ sym (drop-drop w s old))
+    ∙ ap (λ k. putMid s w old (take k (drop s new))) (sym (add-sub-cancel-left s w))
+
+-- so words are settled by what is outside and what stands in the part
+pub outside-one : (s w : ℕ) {old new₁ new₂ : List ℕ} → Outside s (s + w) old new₁ → Outside s (s + w) old new₂ → part s (s + w) new₁ ≡ part s (s + w) new₂ → new₁ ≡ new₂
+outside-one s w {old} o p e = put-is s w o ∙ ap (putMid s w old) e ∙ sym (put-is s w p)
 
 -- what a call on the parts gives, said of the whole
 pub product-at : {lx lz rx rz : List ℕ} (ox oz : List ℕ) (a e : ℕ) {px pz : List ℕ} {p : ℕ} → a ≤ e → e ≤ length ox → e ≤ length oz

@@ -2,17 +2,16 @@
 use mathlib.Core.Path.{_≡_, refl, sym, ap, ap₂, _∙_, subst}
 use mathlib.Core.Logic.{_⊎_, inl, inr}
 use mathlib.Core.Bool.{Bool, true, false, cond, _&&_}
-use mathlib.Core.List.{List, _++_}
+use mathlib.Core.List.{List}
 use Prim.Native.Nat.{ℕ, _+_, _-_, _*_, _%_, _≤_, _<_}
 use native.Mathlib.Decide.{decLt, ℕ-discrete}
 use native.Mathlib.Nat.{add-sub-cancel-left}
 use native.Mathlib.Omega.{arith}
 use borrow.Author.Tests.{eq-eqb, ne-eqb, lt-ltb, le-ltb}
-use borrow.Rule.Slice.PartMut.{putMid, put-same}
+use borrow.Rule.Slice.PartMut.{putMid}
 use lib.Arith.{lt-of-le-ne}
 use lib.Dec.{ltb}
-use lib.ListN.{length, getD, take, drop, set}
-use lib.Seq.{drop-drop}
+use lib.ListN.{length, getD, set}
 use Rattle.pauli.specs.Pauli.{Pauli, hasX, hasZ, mul, phases}
 use Rattle.encoding.specs.Limits.{maxQubits, maxRows, wordsOf}
 use Rattle.encoding.specs.Words.{unpack, pack}
@@ -24,7 +23,7 @@ use Rattle.encoding.proofs.Memory.{mem-eq}
 use Rattle.encoding.proofs.Reading.{length-pack}
 use Rattle.products.specs.Leaves.{Outside, inside, ProductIn}
 use Rattle.products.proofs.InPlace.{inside-is}
-use Rattle.products.proofs.PartLaws.{part-put, outside-put}
+use Rattle.products.proofs.PartLaws.{part-put, outside-put, put-is}
 use Rattle.terms.specs.Leaves.{bothIn, putRow, mulIn, InRows, RowsMultiplied}
 
 -- ---- both rows lie inside
@@ -87,13 +86,6 @@ module _ (n a b : ℕ) (M : Mem) where
   no-b e g h = stays (ap₂ (λ s t. s && t) (eq-eqb _ 0 e) (ap₂ (λ s t. s && t) (lt-ltb a (count M) g) (le-ltb b (count M) h)))
 
 -- ---- and the product where both are
-
--- words whose outside is as it was
-put-is : (s w : ℕ) {old new : List ℕ} → Outside s (s + w) old new → new ≡ putMid s w old (part s (s + w) new)
-put-is s w {old} {new} o =
-    sym (put-same s w new)
-    ∙ ap₂ (λ u v. u ++ (take w (drop s new) ++ v)) (o .before) (drop-drop w s new ∙ o .after ∙ sym (drop-drop w s old))
-    ∙ ap (λ k. putMid s w old (take k (drop s new))) (sym (add-sub-cancel-left s w))
 
 module _ (n a b : ℕ) (M : Mem) (e : fault (outTests n (count M) M) ≡ 0) (ha : a < count M) (hb : b < count M) where
   both : bothIn n M a b ≡ true
