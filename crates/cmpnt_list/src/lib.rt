@@ -67,15 +67,22 @@ fn row_span(r: usize, n: usize, m: usize) -> Span
 }
 
 // The Pauli at qubit q of row r.
-fn read_qubit(n: usize, x: &[u64], z: &[u64], phases: &[u8], r: usize, q: usize) -> PauliMatrix
+fn read_qubit(
+    n: usize,
+    x: &[u64],
+    z: &[u64],
+    phases: &[u8],
+    r: RowNumber,
+    q: QubitNumber,
+) -> PauliMatrix
     requires { ⌜ Sound n (mem (now x) (now z) (now phases)) ⌝ }
-    requires { ⌜ (r < length (now phases)) × (q < n) ⌝ }
-    ensures { λ p. ⌜ p ≡ getD (rowsOf n (mem (now (x .entry)) (now (z .entry)) (now (phases .entry))) r .ps) q I ⌝ }
+    requires { ⌜ (r .0 < length (now phases)) × (q .0 < n) ⌝ }
+    ensures { λ p. ⌜ p ≡ getD (rowsOf n (mem (now (x .entry)) (now (z .entry)) (now (phases .entry))) (r .0) .ps) (q .0) I ⌝ }
 {
-    let s = row_span(r, n, phases.len());
+    let s = row_span(r.0, n, phases.len());
     let a = s.0;
     let e = s.1;
-    encoding::get_qubit(&x[a..e], &z[a..e], QubitNumber(q))
+    encoding::get_qubit(&x[a..e], &z[a..e], q)
 }
 
 // The Pauli at a qubit of a row.
@@ -95,7 +102,7 @@ pub fn get_qubit(
     if f != 0 {
         return Got::Refused(f);
     }
-    Got::Is(read_qubit(n, x, z, phases, row.0, qubit.0))
+    Got::Is(read_qubit(n, x, z, phases, row, qubit))
 }
 
 // Qubit q of row r becomes a Pauli.
@@ -104,18 +111,18 @@ fn write_qubit(
     x: &mut [u64],
     z: &mut [u64],
     phases: &[u8],
-    r: usize,
-    q: usize,
+    r: RowNumber,
+    q: QubitNumber,
     pauli: PauliMatrix,
 )
     requires { ⌜ Sound n (mem (now x) (now z) (now phases)) ⌝ }
-    requires { ⌜ (r < length (now phases)) × (q < n) ⌝ }
-    ensures { λ _. ⌜ mem (now (x .exit)) (now (z .exit)) (now (phases .entry)) ≡ lay n (length (now (phases .entry))) (withQubit (rowsOf n (mem (now (x .entry)) (now (z .entry)) (now (phases .entry)))) r q pauli) ⌝ }
+    requires { ⌜ (r .0 < length (now phases)) × (q .0 < n) ⌝ }
+    ensures { λ _. ⌜ mem (now (x .exit)) (now (z .exit)) (now (phases .entry)) ≡ lay n (length (now (phases .entry))) (withQubit (rowsOf n (mem (now (x .entry)) (now (z .entry)) (now (phases .entry)))) (r .0) (q .0) pauli) ⌝ }
 {
-    let s = row_span(r, n, phases.len());
+    let s = row_span(r.0, n, phases.len());
     let a = s.0;
     let e = s.1;
-    encoding::set_qubit(&mut x[a..e], &mut z[a..e], QubitNumber(q), pauli);
+    encoding::set_qubit(&mut x[a..e], &mut z[a..e], q, pauli);
 }
 
 // A qubit of a row becomes a Pauli.
@@ -136,7 +143,7 @@ pub fn set_qubit(
     if f != 0 {
         return Answer::Refused(f);
     }
-    write_qubit(n, x, z, phases, row.0, qubit.0, pauli);
+    write_qubit(n, x, z, phases, row, qubit, pauli);
     Answer::Done
 }
 

@@ -1,4 +1,5 @@
--- Document 01, the limits: n qubits, 0 to 1,024; m rows, 0 to 256. Later requests that raise a limit change these numbers alone. Assumes nothing.
+-- Document 01, the limits: n qubits, 0 to 1,024; m rows, 0 to 256. The code's MAX_QUBITS, MAX_ROWS, MAX_PHASE and MAX_COLUMNS
+-- follow them. Assumes nothing.
 use Prim.Native.Nat.{ℕ, _+_, _/_}
 
 abbrev pub maxQubits : ℕ
@@ -6,6 +7,10 @@ maxQubits = 1024
 
 abbrev pub maxRows : ℕ
 maxRows = 256
+
+-- a phase byte p, 0 to 3, means i to the p
+abbrev pub maxPhase : ℕ
+maxPhase = 3
 
 -- the words of a row: n/64 rounded up
 abbrev pub wordsOf : ℕ → ℕ

@@ -6,7 +6,7 @@ use Prim.Native.Nat.{ℕ, zero, suc, _*_}
 use lib.Dec.{eqb, leb, ltb}
 use lib.ListN.{length, drop}
 use Rattle.pauli.specs.Pauli.{Pauli, hasX, hasZ}
-use Rattle.encoding.specs.Limits.{maxQubits, maxRows, wordsOf}
+use Rattle.encoding.specs.Limits.{maxQubits, maxRows, maxPhase, wordsOf}
 use Rattle.encoding.specs.Words.{unpack, unbits}
 use Rattle.encoding.specs.Set.{row, Mem, count}
 use Rattle.encoding.specs.declared.Answer.{Answer}
@@ -68,7 +68,7 @@ badBits n m w xs zs = someBelow m (λ r. some isOn (drop n (unpack (row w r xs) 
 
 -- 5: a phase byte above 3
 unfoldable pub badPhases : List ℕ → Bool
-badPhases es = some (λ e. ltb 3 e) es
+badPhases es = some (λ e. ltb maxPhase e) es
 
 -- a set that is read: 1 to 5
 abbrev pub setTests : ℕ → Mem → List Bool

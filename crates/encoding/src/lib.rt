@@ -13,13 +13,13 @@ ghost use Rattle.pauli.specs.declared.PauliMatrix.the-variants.{I};
 ghost use Rattle.encoding.specs.Refusals.{fault, least, some, isOn, badLengths, badBits, badPhases, setTests, outTests, stateTests};
 use pauli::PauliMatrix;
 use pauli::QubitNumber;
-use pauli::RowNumber;
 
 pub const MAX_QUBITS: usize = 1024;
 
 pub const MAX_ROWS: usize = 256;
 
-pub const MAX_WORDS: usize = 16;
+// The largest phase byte.
+pub const MAX_PHASE: u8 = 3;
 
 // What a call answers that changes its buffers.
 pub enum Answer {
@@ -95,7 +95,7 @@ fn bad_phases(p: &[u8]) -> bool
     let mut bad = false;
     let mut i = 0;
     while i < p.len() {
-        let b = 3 < p[i];
+        let b = MAX_PHASE < p[i];
         bad = bad | b;
         i += 1;
     }
@@ -192,7 +192,7 @@ fn with_bit(v: u64, k: usize, b: bool) -> u64
     if b { v | mask } else { v & !mask }
 }
 
-pub fn pauli_of(x: bool, z: bool) -> PauliMatrix
+fn pauli_of(x: bool, z: bool) -> PauliMatrix
     ensures { λ r. ⌜ r ≡ ofBits x z ⌝ }
 {
     if x {
@@ -202,7 +202,7 @@ pub fn pauli_of(x: bool, z: bool) -> PauliMatrix
     }
 }
 
-pub fn has_x(p: PauliMatrix) -> bool
+fn has_x(p: PauliMatrix) -> bool
     ensures { λ r. ⌜ r ≡ hasX p ⌝ }
 {
     match p {
@@ -213,7 +213,7 @@ pub fn has_x(p: PauliMatrix) -> bool
     }
 }
 
-pub fn has_z(p: PauliMatrix) -> bool
+fn has_z(p: PauliMatrix) -> bool
     ensures { λ r. ⌜ r ≡ hasZ p ⌝ }
 {
     match p {

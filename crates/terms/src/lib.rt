@@ -119,7 +119,7 @@ pub fn canonicalize(
 
 // The numbers from 0 on.
 fn count_up(list: &mut [u16])
-    requires { ⌜ length (now list) ≤ 65536 ⌝ }
+    requires { ⌜ length (now list) ≤ maxQubits + maxQubits ⌝ }
     ensures { λ _. ⌜ now (list .exit) ≡ upTo (length (now (list .entry))) ⌝ }
 {
     let m = list.len();

@@ -55,7 +55,7 @@ fn put(
     }
 }
 
-// Row r, if it is another than the pivot and has column c set, is multiplied by the pivot.
+// Row k, if it is another than the pivot and has column c set, is multiplied by the pivot.
 fn turn(
     n: usize,
     x: &mut [u64],

@@ -1,4 +1,4 @@
-// The leaves that the reducer and the checker share: a column of a row, the first listed row with it set.
+// The leaves that the reducer and the checker share: a column of a row, the first listed row with it set, a row multiplied by another.
 ghost use mathlib.Core.Path.{_≡_};
 ghost use Prim.Native.Nat.{_+_, _/_, _%_, _<_, _≤_};
 ghost use lib.ListN.{drop};

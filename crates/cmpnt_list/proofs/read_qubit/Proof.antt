@@ -48,8 +48,8 @@ returns c =
     let a = s .args in
     let M = mem (a .x .now) (a .z .now) (a .phases .now) in
     c .get-qubit .ensures
-    ∙ ap (λ (l : List Pauli). getD l (a .q) I) (words-at (c .before .before .before .row-span .ensures) M)
-    ∙ qubit-is (a .n) (wordsOf (a .n)) M (a .r) (a .q) (s .pre .1 .1)
+    ∙ ap (λ (l : List Pauli). getD l (a .q .0) I) (words-at (c .before .before .before .row-span .ensures) M)
+    ∙ qubit-is (a .n) (wordsOf (a .n)) M (a .r .0) (a .q .0) (s .pre .1 .1)
 
 pub read-qubit-spec : {M : Type 1} → statement M
 read-qubit-spec =

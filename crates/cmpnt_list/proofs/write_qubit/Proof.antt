@@ -46,7 +46,7 @@ returns c =
     let s = c .before .before .before .before .before .before .before .before .before .before .before in
     let a = s .args in
     let q = c .before .before .before .before .set-qubit in
-    qubit-written (a .n) (wordsOf (a .n)) (s .pre .0 .valid) (a .r) (a .q) (a .pauli) (s .pre .1 .0) (s .pre .1 .1) (c .before .before .before .before .before .before .before .row-span .ensures)
+    qubit-written (a .n) (wordsOf (a .n)) (s .pre .0 .valid) (a .r .0) (a .q .0) (a .pauli) (s .pre .1 .0) (s .pre .1 .1) (c .before .before .before .before .before .before .before .row-span .ensures)
     (q .last .0) (q .last .1 .0) (q .kept .0) (q .kept .1 .0) (c .before .before .slice-known3 .given) (c .slice-known4 .given) (q .ensures)
 
 pub write-qubit-spec : {M : Type 1} → statement M
