@@ -45,6 +45,7 @@ fn list() -> Vec<String> {
     refusals(&mut out);
     not_of_the_form(&mut out);
     random(&mut out);
+    last_ones(&mut out);
     out
 }
 
@@ -441,4 +442,35 @@ fn random(out: &mut Vec<String>) {
             }
         }
     }
+}
+
+/// What only the last qubit, row or column of the limits decides, and a few more that no line above does: each shows a
+/// mutation of compare/mutations.txt.
+fn last_ones(out: &mut Vec<String>) {
+    out.push(
+        "# decided by qubit 1,023, by row 255, by row number 256 in a log, by a coefficient without a block"
+            .to_string(),
+    );
+    let row = |letter: Pauli| Row { paulis: [vec![Pauli::I; 1023], vec![letter]].concat(), phase: 0 };
+    let set = |letters: &[Pauli]| packed(1024, &letters.iter().map(|letter| row(*letter)).collect::<Vec<_>>());
+    for call in ["comm", "phase"] {
+        out.push(with_numbers(call, 1024, &set(&[Pauli::X, Pauli::Z]), &[0, 1]));
+    }
+    out.push(with_numbers("reduceall", 1024, &set(&[Pauli::Z, Pauli::Z]), &[4]));
+    for letter in [Pauli::X, Pauli::Z] {
+        let claim = set(&[letter]);
+        let claim = vec![Field::Words(claim.x), Field::Words(claim.z), Field::Bytes(claim.p)];
+        let more = [vec![Field::Shorts(vec![]); 4], claim].concat();
+        out.push(valid::call_on("check", 1024, &set(&[Pauli::I]), more).line());
+    }
+    let mut rows = vec![Row { paulis: vec![Pauli::X], phase: 0 }; 256];
+    rows[255].paulis[0] = Pauli::Z;
+    out.push(with_numbers("central", 1, &packed(1, &rows), &[0]));
+    out.push(with_numbers("matrix", 1, &packed(1, &rows), &[1024]));
+    for at in [0, 1] {
+        let mut log = LOG;
+        log[at] = 256;
+        out.push(check_of(&log, CLAIM));
+    }
+    out.push("elemf 1 0,0 0,0 7ff8000000000000,0 0,0 0 1".to_string());
 }
