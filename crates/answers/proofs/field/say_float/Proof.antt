@@ -3,14 +3,8 @@ use Rattle.answers.proofs.Saying.{field}
 use Rattle.answers.proofs.field.say_float.Statement.{statement}
 use Rattle.answers.proofs.field.say_float.Tie as tie
 
-byte-requires : tie.Need-byte-requires
-byte-requires c κs = search needs
-
-float-requires : tie.Need-float-requires
-float-requires c κs = search needs
-
 returns : tie.Need-returns
 returns c = field (c .before .before .byte .ensures) (c .float .ensures)
 
 pub say-float-spec : {M : Type 1} → statement M
-say-float-spec = tie.close (tie.spec byte-requires float-requires returns)
+say-float-spec = tie.close (tie.spec (λ c κs. search needs) (λ c κs. search needs) returns)

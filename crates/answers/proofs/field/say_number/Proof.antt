@@ -3,14 +3,8 @@ use Rattle.answers.proofs.Saying.{field}
 use Rattle.answers.proofs.field.say_number.Statement.{statement}
 use Rattle.answers.proofs.field.say_number.Tie as tie
 
-byte-requires : tie.Need-byte-requires
-byte-requires c κs = search needs
-
-decimal-requires : tie.Need-decimal-requires
-decimal-requires c κs = search needs
-
 returns : tie.Need-returns
 returns c = field (c .before .before .byte .ensures) (c .decimal .ensures)
 
 pub say-number-spec : {M : Type 1} → statement M
-say-number-spec = tie.close (tie.spec byte-requires decimal-requires returns)
+say-number-spec = tie.close (tie.spec (λ c κs. search needs) (λ c κs. search needs) returns)

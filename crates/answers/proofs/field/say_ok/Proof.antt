@@ -5,14 +5,8 @@ use Rattle.answers.proofs.Saying.{said}
 use Rattle.answers.proofs.field.say_ok.Statement.{statement}
 use Rattle.answers.proofs.field.say_ok.Tie as tie
 
-slice-aggregate-text : tie.Need-slice-aggregate-text
-slice-aggregate-text c = search needs
-
-text-requires : tie.Need-text-requires
-text-requires c κs = search needs
-
 returns : tie.Need-returns
 returns c = said (line (letters "ok") refl none) (c .text .ensures)
 
 pub say-ok-spec : {M : Type 1} → statement M
-say-ok-spec = tie.close (tie.spec slice-aggregate-text text-requires returns)
+say-ok-spec = tie.close (tie.spec (λ c. search needs) (λ c κs. search needs) returns)

@@ -3,14 +3,8 @@ use Rattle.answers.proofs.Saying.{field}
 use Rattle.answers.proofs.field.say_words.Statement.{statement}
 use Rattle.answers.proofs.field.say_words.Tie as tie
 
-byte-requires : tie.Need-byte-requires
-byte-requires c κs = search needs
-
-words-requires : tie.Need-words-requires
-words-requires c κs = search needs
-
 returns : tie.Need-returns
 returns c = field (c .before .before .byte .ensures) (c .words .ensures)
 
 pub say-words-spec : {M : Type 1} → statement M
-say-words-spec = tie.close (tie.spec byte-requires words-requires returns)
+say-words-spec = tie.close (tie.spec (λ c κs. search needs) (λ c κs. search needs) returns)

@@ -3,21 +3,6 @@ use Rattle.answers.proofs.Saying.{on}
 use Rattle.answers.proofs.rows.changed.Statement.{statement}
 use Rattle.answers.proofs.rows.changed.Tie as tie
 
-enum-told : tie.Need-enum-told
-enum-told c = search needs
-
-say-ok-requires : tie.Need-say-ok-requires
-say-ok-requires c κs = search needs
-
-say-set-requires : tie.Need-say-set-requires
-say-set-requires c κs = search needs
-
-enum-known-a : tie.Need-enum-known-a
-enum-known-a c = search needs
-
-say-refuse-requires : tie.Need-say-refuse-requires
-say-refuse-requires c κs = search needs
-
 returns : tie.Need-returns
 returns c = rw (c .before .before .before .before .enum-told .given .1) (on (c .before .before .say-ok .ensures) (c .say-set .ensures))
 
@@ -28,10 +13,10 @@ pub changed-spec : {M : Type 1} → statement M
 changed-spec =
     tie.close
     (tie.spec
-    enum-told
-    say-ok-requires
-    say-set-requires
-    enum-known-a
-    say-refuse-requires
+    (λ c. search needs)
+    (λ c κs. search needs)
+    (λ c κs. search needs)
+    (λ c. search needs)
+    (λ c κs. search needs)
     returns
     returns-2)

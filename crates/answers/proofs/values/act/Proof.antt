@@ -3,21 +3,6 @@ use Rattle.answers.proofs.Saying.{on}
 use Rattle.answers.proofs.values.act.Statement.{statement}
 use Rattle.answers.proofs.values.act.Tie as tie
 
-enum-known-a : tie.Need-enum-known-a
-enum-known-a c = search needs
-
-exponent-requires : tie.Need-exponent-requires
-exponent-requires c κs = search needs
-
-say-words-requires : tie.Need-say-words-requires
-say-words-requires c κs = search needs
-
-enum-known-a-2 : tie.Need-enum-known-a-2
-enum-known-a-2 c = search needs
-
-say-refuse-requires : tie.Need-say-refuse-requires
-say-refuse-requires c κs = search needs
-
 returns : tie.Need-returns
 returns c = rw (c .before .before .before .before .before .a .given .1) (on (c .before .before .exponent .ensures) (c .say-words .ensures))
 
@@ -28,10 +13,10 @@ pub act-spec : {M : Type 1} → statement M
 act-spec =
     tie.close
     (tie.spec
-    enum-known-a
-    exponent-requires
-    say-words-requires
-    enum-known-a-2
-    say-refuse-requires
+    (λ c. search needs)
+    (λ c κs. search needs)
+    (λ c κs. search needs)
+    (λ c. search needs)
+    (λ c κs. search needs)
     returns
     returns-2)

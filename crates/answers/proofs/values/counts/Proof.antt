@@ -3,21 +3,6 @@ use Rattle.answers.proofs.Saying.{on}
 use Rattle.answers.proofs.values.counts.Statement.{statement}
 use Rattle.answers.proofs.values.counts.Tie as tie
 
-enum-known-i : tie.Need-enum-known-i
-enum-known-i c = search needs
-
-phase-of-words-requires : tie.Need-phase-of-words-requires
-phase-of-words-requires c κs = search needs
-
-tallies-requires : tie.Need-tallies-requires
-tallies-requires c κs = search needs
-
-enum-known-i-2 : tie.Need-enum-known-i-2
-enum-known-i-2 c = search needs
-
-say-refuse-requires : tie.Need-say-refuse-requires
-say-refuse-requires c κs = search needs
-
 returns : tie.Need-returns
 returns c = rw (c .before .before .before .before .before .i .given .1) (on (c .before .before .phase-of-words .ensures) (c .tallies .ensures))
 
@@ -28,10 +13,10 @@ pub counts-spec : {M : Type 1} → statement M
 counts-spec =
     tie.close
     (tie.spec
-    enum-known-i
-    phase-of-words-requires
-    tallies-requires
-    enum-known-i-2
-    say-refuse-requires
+    (λ c. search needs)
+    (λ c κs. search needs)
+    (λ c κs. search needs)
+    (λ c. search needs)
+    (λ c κs. search needs)
     returns
     returns-2)

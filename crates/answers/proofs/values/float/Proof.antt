@@ -5,27 +5,6 @@ use Rattle.answers.proofs.Saying.{said}
 use Rattle.answers.proofs.values.float.Statement.{statement}
 use Rattle.answers.proofs.values.float.Tie as tie
 
-enum-known-a : tie.Need-enum-known-a
-enum-known-a c = search needs
-
-floats-requires : tie.Need-floats-requires
-floats-requires c κs = search needs
-
-enum-told : tie.Need-enum-told
-enum-told c = search needs
-
-slice-aggregate-text : tie.Need-slice-aggregate-text
-slice-aggregate-text c = search needs
-
-text-requires : tie.Need-text-requires
-text-requires c κs = search needs
-
-enum-known-a-2 : tie.Need-enum-known-a-2
-enum-known-a-2 c = search needs
-
-say-refuse-requires : tie.Need-say-refuse-requires
-say-refuse-requires c κs = search needs
-
 returns : tie.Need-returns
 returns c = rw (c .before .before .before .a .given .1) (c .floats .ensures)
 
@@ -39,13 +18,13 @@ pub float-spec : {M : Type 1} → statement M
 float-spec =
     tie.close
     (tie.spec
-    enum-known-a
-    floats-requires
-    enum-told
-    slice-aggregate-text
-    text-requires
-    enum-known-a-2
-    say-refuse-requires
+    (λ c. search needs)
+    (λ c κs. search needs)
+    (λ c. search needs)
+    (λ c. search needs)
+    (λ c κs. search needs)
+    (λ c. search needs)
+    (λ c κs. search needs)
     returns
     returns-2
     returns-3)

@@ -3,21 +3,6 @@ use Rattle.answers.proofs.Saying.{on}
 use Rattle.answers.proofs.values.got.Statement.{statement}
 use Rattle.answers.proofs.values.got.Tie as tie
 
-enum-known-a : tie.Need-enum-known-a
-enum-known-a c = search needs
-
-say-ok-requires : tie.Need-say-ok-requires
-say-ok-requires c κs = search needs
-
-say-letter-requires : tie.Need-say-letter-requires
-say-letter-requires c κs = search needs
-
-enum-known-a-2 : tie.Need-enum-known-a-2
-enum-known-a-2 c = search needs
-
-say-refuse-requires : tie.Need-say-refuse-requires
-say-refuse-requires c κs = search needs
-
 returns : tie.Need-returns
 returns c = rw (c .before .before .before .before .before .a .given .1) (on (c .before .before .say-ok .ensures) (c .say-letter .ensures))
 
@@ -28,10 +13,10 @@ pub got-spec : {M : Type 1} → statement M
 got-spec =
     tie.close
     (tie.spec
-    enum-known-a
-    say-ok-requires
-    say-letter-requires
-    enum-known-a-2
-    say-refuse-requires
+    (λ c. search needs)
+    (λ c κs. search needs)
+    (λ c κs. search needs)
+    (λ c. search needs)
+    (λ c κs. search needs)
     returns
     returns-2)

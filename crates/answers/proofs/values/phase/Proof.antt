@@ -2,18 +2,6 @@ use borrow.Author.Needs.{needs}
 use Rattle.answers.proofs.values.phase.Statement.{statement}
 use Rattle.answers.proofs.values.phase.Tie as tie
 
-enum-known-a : tie.Need-enum-known-a
-enum-known-a c = search needs
-
-exponent-requires : tie.Need-exponent-requires
-exponent-requires c κs = search needs
-
-enum-known-a-2 : tie.Need-enum-known-a-2
-enum-known-a-2 c = search needs
-
-say-refuse-requires : tie.Need-say-refuse-requires
-say-refuse-requires c κs = search needs
-
 returns : tie.Need-returns
 returns c = rw (c .before .before .before .a .given .1) (c .exponent .ensures)
 
@@ -23,4 +11,4 @@ returns-2 c = rw (c .before .before .before .a2 .given .1) (c .say-refuse .ensur
 pub phase-spec : {M : Type 1} → statement M
 phase-spec =
     tie.close
-    (tie.spec enum-known-a exponent-requires enum-known-a-2 say-refuse-requires returns returns-2)
+    (tie.spec (λ c. search needs) (λ c κs. search needs) (λ c. search needs) (λ c κs. search needs) returns returns-2)

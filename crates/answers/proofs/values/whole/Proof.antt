@@ -7,27 +7,6 @@ use Rattle.answers.proofs.Saying.{said}
 use Rattle.answers.proofs.values.whole.Statement.{statement}
 use Rattle.answers.proofs.values.whole.Tie as tie
 
-enum-known-a : tie.Need-enum-known-a
-enum-known-a c = search needs
-
-integers-requires : tie.Need-integers-requires
-integers-requires c κs = search needs
-
-enum-told : tie.Need-enum-told
-enum-told c = search needs
-
-slice-aggregate-text : tie.Need-slice-aggregate-text
-slice-aggregate-text c = search needs
-
-text-requires : tie.Need-text-requires
-text-requires c κs = search needs
-
-enum-known-a-2 : tie.Need-enum-known-a-2
-enum-known-a-2 c = search needs
-
-say-refuse-requires : tie.Need-say-refuse-requires
-say-refuse-requires c κs = search needs
-
 returns : tie.Need-returns
 returns c = rw (c .before .before .before .a .given .1) (rw (toZ-ofZ (sfits-of {w = w64} (c .before .before .known-told .given .0 .1)), toZ-ofZ (sfits-of {w = w64} (c .before .before .known-told .given .1 .0 .1))) at (c .integers .ensures))
 
@@ -41,13 +20,13 @@ pub whole-spec : {M : Type 1} → statement M
 whole-spec =
     tie.close
     (tie.spec
-    enum-known-a
-    integers-requires
-    enum-told
-    slice-aggregate-text
-    text-requires
-    enum-known-a-2
-    say-refuse-requires
+    (λ c. search needs)
+    (λ c κs. search needs)
+    (λ c. search needs)
+    (λ c. search needs)
+    (λ c κs. search needs)
+    (λ c. search needs)
+    (λ c κs. search needs)
     returns
     returns-2
     returns-3)
