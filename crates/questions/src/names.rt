@@ -1,5 +1,6 @@
 // The names of the cases.
 ghost use Prim.Native.Nat.{_≤_};
+ghost use Rattle.linein.specs.Reading.{Onward};
 use linein::Cursor;
 use linein::ROOM;
 
@@ -53,14 +54,18 @@ pub struct Named {
     pub c: Cursor,
 }
 
-pub fn read(buf: &mut [u8; ROOM], c: Cursor) -> Named {
+pub fn read(buf: &mut [u8; ROOM], c: Cursor) -> Named
+    ensures { λ r. ⌜ (Onward c (r .c)) × (r .name ≤ 17) ⌝ }
+{
     let mut s = [b' '; NAME];
     let l = linein::name(buf, c, &mut s);
     let c = l.c;
     Named { name: which(&s), c }
 }
 
-fn which(s: &[u8; NAME]) -> u8 {
+fn which(s: &[u8; NAME]) -> u8
+    ensures { λ r. ⌜ r ≤ 17 ⌝ }
+{
     if s[LONGEST] != b' ' {
         return CASES;
     }
@@ -71,7 +76,9 @@ fn which(s: &[u8; NAME]) -> u8 {
 }
 
 // The place of s in the table.
-fn place(s: &[u8; NAME], table: &[u8; TABLE]) -> u8 {
+fn place(s: &[u8; NAME], table: &[u8; TABLE]) -> u8
+    ensures { λ r. ⌜ r ≤ 17 ⌝ }
+{
     let mut k = 0;
     let mut at = 0;
     while k < CASES {

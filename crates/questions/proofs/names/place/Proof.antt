@@ -1,13 +1,8 @@
 use borrow.Author.Needs.{needs}
-use native.Mathlib.Omega.{arith}
-use mathlib.Core.Path.{_≡_, refl, sym, ap, _∙_}
-use Prim.Native.Nat.{ℕ, _+_, _*_, _-_, _/_, _<_, _≤_}
-use lib.ListN.{length, getD, drop, take, length-set}
+use mathlib.Core.Path.{_≡_}
+use Prim.Native.Nat.{_*_, _-_}
 use Rattle.questions.proofs.names.place.Statement.{statement}
 use Rattle.questions.proofs.names.place.Tie as tie
-use Rattle.questions.proofs.names.place.Reads as reads
-use Rattle.questions.proofs.names.place.Lts as lts
-use Rattle.questions.proofs.names.same.Reads as same-reads
 
 abbrev Inv-loop : tie.InvT-loop
 Inv-loop s table k₀ at₀ k at = at ≡ 9 * k

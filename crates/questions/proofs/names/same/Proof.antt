@@ -1,12 +1,7 @@
 use borrow.Author.Needs.{needs}
-use native.Mathlib.Omega.{arith}
-use mathlib.Core.Path.{_≡_, refl, sym, ap, _∙_}
-use Prim.Native.Nat.{ℕ, _+_, _*_, _-_, _/_, _<_, _≤_}
-use lib.ListN.{length, getD, drop, take, length-set}
+use Prim.Native.Nat.{_-_}
 use Rattle.questions.proofs.names.same.Statement.{statement}
 use Rattle.questions.proofs.names.same.Tie as tie
-use Rattle.questions.proofs.names.same.Reads as reads
-use Rattle.questions.proofs.names.same.Lts as lts
 
 abbrev Inv-loop : tie.InvT-loop
 Inv-loop s table at i₀ i = Unit {0}
