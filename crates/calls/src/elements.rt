@@ -25,12 +25,22 @@ pub(crate) fn whole(
     if c.bad {
         return State { c, at };
     }
-    let at = answers::whole(out, at, whole_of(q, x, z, re, im));
+    let at = whole_of(out, at, q, x, z, re, im);
     State { c, at }
 }
 
-fn whole_of(q: Terms, x: &[u64], z: &[u64], re: &[i32], im: &[i32]) -> mat_elem_whole::Element {
-    mat_elem_whole::mat_elem_cmpnts_from_presorted(
+fn whole_of(
+    out: &mut [u8; ROOM],
+    at: usize,
+    q: Terms,
+    x: &[u64],
+    z: &[u64],
+    re: &[i32],
+    im: &[i32],
+) -> usize {
+    replies::whole(
+        out,
+        at,
         q.n,
         first_words(x, q.x),
         first_words(z, q.z),
@@ -58,12 +68,22 @@ pub(crate) fn float(
     if c.bad {
         return State { c, at };
     }
-    let at = answers::float(out, at, float_of(q, x, z, re, im));
+    let at = float_of(out, at, q, x, z, re, im);
     State { c, at }
 }
 
-fn float_of(q: Terms, x: &[u64], z: &[u64], re: &[f64], im: &[f64]) -> mat_elem_float::Element {
-    mat_elem_float::mat_elem_cmpnts_from_presorted(
+fn float_of(
+    out: &mut [u8; ROOM],
+    at: usize,
+    q: Terms,
+    x: &[u64],
+    z: &[u64],
+    re: &[f64],
+    im: &[f64],
+) -> usize {
+    replies::float(
+        out,
+        at,
         q.n,
         first_words(x, q.x),
         first_words(z, q.z),

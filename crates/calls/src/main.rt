@@ -1,9 +1,7 @@
 // One call a line on standard input, one answer a line on standard output; docs/CALLS.md says how they are written.
 // The fields of a line are read into arrays, the call is made on the parts that were filled, and the answer is written.
-mod checking;
 mod elements;
 mod lent;
-mod pair;
 mod part;
 mod reducing;
 mod rows;
@@ -126,7 +124,7 @@ fn logged(
     match name {
         names::REDUCE => reducing::reduce(buf, c, out, at, log),
         names::REDUCE_ALL => reducing::reduce_all(buf, c, out, at, log),
-        names::CHECK => checking::check(buf, c, out, at, log),
+        names::CHECK => reducing::check(buf, c, out, at, log),
         _ => small(buf, c, out, at, name),
     }
 }
@@ -147,7 +145,7 @@ fn small(buf: &mut [u8; ROOM], c: Cursor, out: &mut [u8; ROOM], at: usize, name:
         names::SET => lent::set(buf, c, out, at),
         names::ACT => lent::act(buf, c, out, at),
         names::MATRIX => lent::matrix(buf, c, out, at),
-        names::PAIRWISE => pair::pairwise(buf, c, out, at),
+        names::PAIRWISE => lent::pairwise(buf, c, out, at),
         _ => {
             let c = linein::spoiled(c);
             State { c, at }

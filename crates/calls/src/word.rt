@@ -9,8 +9,7 @@ pub(crate) fn phase(buf: &mut [u8; ROOM], c: Cursor, out: &mut [u8; ROOM], at: u
     if c.bad {
         return State { c, at };
     }
-    let e = products::mul_op_op_phase_u64(q.ax, q.az, q.bx, q.bz);
-    let at = answers::phase_of_words(out, at, e);
+    let at = replies::phase_of_words(out, at, q.ax, q.az, q.bx, q.bz);
     State { c, at }
 }
 
@@ -20,7 +19,6 @@ pub(crate) fn act(buf: &mut [u8; ROOM], c: Cursor, out: &mut [u8; ROOM], at: usi
     if c.bad {
         return State { c, at };
     }
-    let e = products::mul_op_state_phase_u64(q.x, q.z, q.state);
-    let at = answers::act_of_word(out, at, e, q.state ^ q.x);
+    let at = replies::act_of_word(out, at, q.x, q.z, q.state);
     State { c, at }
 }
