@@ -2,11 +2,7 @@
 use crate::State;
 use linein::Cursor;
 use linein::ROOM;
-use linein::first_floats;
-use linein::first_ints;
-use linein::first_words;
 use questions::TERMS;
-use questions::Terms;
 
 // ---- in whole numbers
 
@@ -25,30 +21,8 @@ pub(crate) fn whole(
     if c.bad {
         return State { c, at };
     }
-    let at = whole_of(out, at, q, x, z, re, im);
+    let at = lending::whole(out, at, q, x, z, re, im);
     State { c, at }
-}
-
-fn whole_of(
-    out: &mut [u8; ROOM],
-    at: usize,
-    q: Terms,
-    x: &[u64],
-    z: &[u64],
-    re: &[i32],
-    im: &[i32],
-) -> usize {
-    replies::whole(
-        out,
-        at,
-        q.n,
-        first_words(x, q.x),
-        first_words(z, q.z),
-        first_ints(re, q.re),
-        first_ints(im, q.im),
-        q.bra,
-        q.ket,
-    )
 }
 
 // ---- in floats
@@ -68,28 +42,6 @@ pub(crate) fn float(
     if c.bad {
         return State { c, at };
     }
-    let at = float_of(out, at, q, x, z, re, im);
+    let at = lending::float(out, at, q, x, z, re, im);
     State { c, at }
-}
-
-fn float_of(
-    out: &mut [u8; ROOM],
-    at: usize,
-    q: Terms,
-    x: &[u64],
-    z: &[u64],
-    re: &[f64],
-    im: &[f64],
-) -> usize {
-    replies::float(
-        out,
-        at,
-        q.n,
-        first_words(x, q.x),
-        first_words(z, q.z),
-        first_floats(re, q.re),
-        first_floats(im, q.im),
-        q.bra,
-        q.ket,
-    )
 }

@@ -2,7 +2,6 @@
 // The fields of a line are read into arrays, the call is made on the parts that were filled, and the answer is written.
 mod elements;
 mod lent;
-mod part;
 mod reducing;
 mod rows;
 mod word;

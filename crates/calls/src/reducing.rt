@@ -1,17 +1,10 @@
 // Reduction, and the replay checker.
 use crate::State;
-use crate::part::clip;
 use linein::Cursor;
 use linein::ROOM;
-use linein::first_bytes;
-use linein::first_halves;
-use linein::first_words;
-use questions::Check;
 use questions::LIST;
 use questions::LOG;
-use questions::OneNumber;
 use questions::ROWS;
-use questions::Reduce;
 use questions::WORDS;
 
 // ---- reduce
@@ -43,7 +36,7 @@ pub(crate) fn reduce(
     if c.bad {
         return State { c, at };
     }
-    let at = reduce_in(
+    let at = lending::reduce(
         out,
         at,
         q,
@@ -56,38 +49,6 @@ pub(crate) fn reduce(
         log,
     );
     State { c, at }
-}
-
-fn reduce_in(
-    out: &mut [u8; ROOM],
-    at: usize,
-    q: Reduce,
-    x: &mut [u64],
-    z: &mut [u64],
-    p: &mut [u8],
-    order: &[u16],
-    listed: &[u16],
-    extra: &[u16],
-    log: &mut [u16],
-) -> usize {
-    let l = q.l;
-    let k = q.k;
-    let i = clip(l.x, x.len());
-    let j = clip(l.z, z.len());
-    let h = clip(l.p, p.len());
-    let units = clip(q.units, log.len());
-    replies::reduce(
-        out,
-        at,
-        l.n,
-        &mut x[0..i],
-        &mut z[0..j],
-        &mut p[0..h],
-        first_halves(order, k.order),
-        first_halves(listed, k.listed),
-        first_halves(extra, k.extra),
-        &mut log[0..units],
-    )
 }
 
 // ---- reduceall
@@ -107,33 +68,8 @@ pub(crate) fn reduce_all(
     if c.bad {
         return State { c, at };
     }
-    let at = reduce_all_in(out, at, q, &mut x, &mut z, &mut p, log);
+    let at = lending::reduce_all(out, at, q, &mut x, &mut z, &mut p, log);
     State { c, at }
-}
-
-fn reduce_all_in(
-    out: &mut [u8; ROOM],
-    at: usize,
-    q: OneNumber,
-    x: &mut [u64],
-    z: &mut [u64],
-    p: &mut [u8],
-    log: &mut [u16],
-) -> usize {
-    let l = q.l;
-    let i = clip(l.x, x.len());
-    let j = clip(l.z, z.len());
-    let h = clip(l.p, p.len());
-    let units = clip(q.value, log.len());
-    replies::reduce_all(
-        out,
-        at,
-        l.n,
-        &mut x[0..i],
-        &mut z[0..j],
-        &mut p[0..h],
-        &mut log[0..units],
-    )
 }
 
 // ---- check
@@ -202,7 +138,7 @@ fn check_claim(
     if c.bad {
         return State { c, at };
     }
-    let at = check_in(
+    let at = lending::check(
         out,
         at,
         q,
@@ -218,42 +154,4 @@ fn check_claim(
         &cp,
     );
     State { c, at }
-}
-
-fn check_in(
-    out: &mut [u8; ROOM],
-    at: usize,
-    q: Check,
-    x: &mut [u64],
-    z: &mut [u64],
-    p: &mut [u8],
-    order: &[u16],
-    listed: &[u16],
-    extra: &[u16],
-    log: &[u16],
-    cx: &[u64],
-    cz: &[u64],
-    cp: &[u8],
-) -> usize {
-    let l = q.l;
-    let k = q.k;
-    let d = q.claim;
-    let i = clip(l.x, x.len());
-    let j = clip(l.z, z.len());
-    let h = clip(l.p, p.len());
-    replies::check(
-        out,
-        at,
-        l.n,
-        &mut x[0..i],
-        &mut z[0..j],
-        &mut p[0..h],
-        first_halves(order, k.order),
-        first_halves(listed, k.listed),
-        first_halves(extra, k.extra),
-        first_halves(log, q.units),
-        first_words(cx, d.x),
-        first_words(cz, d.z),
-        first_bytes(cp, d.p),
-    )
 }

@@ -1,13 +1,8 @@
 // Calls on a set and one or two numbers: count and central of a row, get of a row and a qubit, phase, comm and imul of
 // two rows.
 use crate::State;
-use crate::part::clip;
 use linein::Cursor;
 use linein::ROOM;
-use linein::first_bytes;
-use linein::first_words;
-use pauli::QubitNumber;
-use pauli::RowNumber;
 use questions::OneNumber;
 use questions::ROWS;
 use questions::TwoNumbers;
@@ -40,18 +35,14 @@ fn of_row(
     at: usize,
     name: u8,
     q: OneNumber,
-    x: &[u64],
-    z: &[u64],
-    p: &[u8],
+    x: &[u64; WORDS],
+    z: &[u64; WORDS],
+    p: &[u8; ROWS],
 ) -> usize {
-    let l = q.l;
-    let x = first_words(x, l.x);
-    let z = first_words(z, l.z);
-    let p = first_bytes(p, l.p);
     if name == names::COUNT {
-        return replies::count(out, at, l.n, x, z, p, RowNumber(q.value));
+        return lending::count(out, at, q, x, z, p);
     }
-    replies::central(out, at, l.n, x, z, p, RowNumber(q.value))
+    lending::central(out, at, q, x, z, p)
 }
 
 // ---- of two numbers
@@ -71,51 +62,23 @@ pub(crate) fn two(
     if c.bad {
         return State { c, at };
     }
-    let at = of_parts(out, at, name, q, &mut x, &mut z, &mut p);
+    let at = of_two(out, at, name, q, &mut x, &mut z, &mut p);
     State { c, at }
-}
-
-fn of_parts(
-    out: &mut [u8; ROOM],
-    at: usize,
-    name: u8,
-    q: TwoNumbers,
-    x: &mut [u64],
-    z: &mut [u64],
-    p: &mut [u8],
-) -> usize {
-    let l = q.l;
-    let i = clip(l.x, x.len());
-    let j = clip(l.z, z.len());
-    let k = clip(l.p, p.len());
-    of_two(
-        out,
-        at,
-        name,
-        l.n,
-        &mut x[0..i],
-        &mut z[0..j],
-        &mut p[0..k],
-        q.a,
-        q.b,
-    )
 }
 
 fn of_two(
     out: &mut [u8; ROOM],
     at: usize,
     name: u8,
-    n: usize,
-    x: &mut [u64],
-    z: &mut [u64],
-    p: &mut [u8],
-    a: usize,
-    b: usize,
+    q: TwoNumbers,
+    x: &mut [u64; WORDS],
+    z: &mut [u64; WORDS],
+    p: &mut [u8; ROWS],
 ) -> usize {
     match name {
-        names::GET => replies::get(out, at, n, x, z, p, RowNumber(a), QubitNumber(b)),
-        names::PHASE => replies::phase(out, at, n, x, z, p, RowNumber(a), RowNumber(b)),
-        names::COMMUTES => replies::commutes(out, at, n, x, z, p, RowNumber(a), RowNumber(b)),
-        _ => replies::multiply(out, at, n, x, z, p, RowNumber(a), RowNumber(b)),
+        names::GET => lending::get(out, at, q, x, z, p),
+        names::PHASE => lending::phase(out, at, q, x, z, p),
+        names::COMMUTES => lending::commutes(out, at, q, x, z, p),
+        _ => lending::multiply(out, at, q, x, z, p),
     }
 }
