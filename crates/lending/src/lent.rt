@@ -1,4 +1,8 @@
 // Calls on a set and something else that is lent to be changed.
+ghost use lib.ListN.{take};
+ghost use Rattle.cmpnt_list.specs.Calls.{SetQubit, CompatibilityMatrix, MulPairwise, ImulState};
+ghost use Rattle.answers.specs.Answers.{changedLine, actLine, matrixLine};
+ghost use Rattle.lending.specs.Parts.{setOf, Answered};
 use crate::part::clip;
 use linein::first_bytes;
 use linein::first_words;
@@ -17,7 +21,9 @@ pub fn set(
     x: &mut [u64],
     z: &mut [u64],
     p: &[u8],
-) -> usize {
+) -> usize
+    ensures { λ r. ⌜ Answered (SetQubit (q .l .n) (setOf (q .l .x) (q .l .z) (q .l .p) (now (x .entry)) (now (z .entry)) (now (p .entry))) (q .row) (q .q) (q .to)) (λ t a. changedLine a (t .xs) (t .zs) (t .es)) (now (out .entry)) at (now (out .exit)) r ⌝ }
+{
     let l = q.l;
     let to = q.to;
     let i = clip(l.x, x.len());
@@ -43,7 +49,9 @@ pub fn act(
     z: &[u64],
     p: &[u8],
     s: &mut [u64],
-) -> usize {
+) -> usize
+    ensures { λ r. ⌜ Answered (ImulState (q .l .n) (setOf (q .l .x) (q .l .z) (q .l .p) (now (x .entry)) (now (z .entry)) (now (p .entry))) (q .row) (take (q .count) (now (s .entry)))) (λ t e. actLine e t) (now (out .entry)) at (now (out .exit)) r ⌝ }
+{
     let l = q.l;
     let k = clip(q.count, s.len());
     replies::act(
@@ -66,7 +74,9 @@ pub fn matrix(
     z: &[u64],
     p: &[u8],
     m: &mut [u64],
-) -> usize {
+) -> usize
+    ensures { λ r. ⌜ Answered (CompatibilityMatrix (q .l .n) (setOf (q .l .x) (q .l .z) (q .l .p) (now (x .entry)) (now (z .entry)) (now (p .entry))) (take (q .value) (now (m .entry)))) (λ t a. matrixLine a t) (now (out .entry)) at (now (out .exit)) r ⌝ }
+{
     let l = q.l;
     let k = clip(q.value, m.len());
     replies::matrix(
@@ -93,7 +103,9 @@ pub fn pairwise(
     x: &mut [u64],
     z: &mut [u64],
     p: &mut [u8],
-) -> usize {
+) -> usize
+    ensures { λ r. ⌜ Answered (MulPairwise (q .l .n) (setOf (q .l .x) (q .l .z) (q .l .p) (now (lx .entry)) (now (lz .entry)) (now (lp .entry))) (setOf (q .r .x) (q .r .z) (q .r .p) (now (rx .entry)) (now (rz .entry)) (now (rp .entry))) (setOf (q .o .x) (q .o .z) (q .o .p) (now (x .entry)) (now (z .entry)) (now (p .entry)))) (λ t a. changedLine a (t .xs) (t .zs) (t .es)) (now (out .entry)) at (now (out .exit)) r ⌝ }
+{
     let l = q.l;
     let r = q.r;
     let o = q.o;

@@ -1,4 +1,9 @@
 // Reduction, and the replay checker.
+ghost use lib.ListN.{take};
+ghost use Rattle.terms.specs.Calls.{Reduces, ReducesAll};
+ghost use Rattle.replay.specs.Check.{task, claim, Checked};
+ghost use Rattle.answers.specs.Answers.{reduceLine, checkLine};
+ghost use Rattle.lending.specs.Parts.{setOf, Logged, Answered};
 use crate::part::clip;
 use linein::first_bytes;
 use linein::first_halves;
@@ -19,7 +24,9 @@ pub fn reduce(
     listed: &[u16],
     extra: &[u16],
     log: &mut [u16],
-) -> usize {
+) -> usize
+    ensures { λ r. ⌜ Answered {B = Logged} (λ t a. Reduces (q .l .n) (take (q .k .order) (now (order .entry))) (take (q .k .listed) (now (listed .entry))) (take (q .k .extra) (now (extra .entry))) (setOf (q .l .x) (q .l .z) (q .l .p) (now (x .entry)) (now (z .entry)) (now (p .entry))) (take (q .units) (now (log .entry))) (t .rows) (t .log) a) (λ t a. reduceLine a (t .log) (t .rows .xs) (t .rows .zs) (t .rows .es)) (now (out .entry)) at (now (out .exit)) r ⌝ }
+{
     let l = q.l;
     let k = q.k;
     let i = clip(l.x, x.len());
@@ -48,7 +55,9 @@ pub fn reduce_all(
     z: &mut [u64],
     p: &mut [u8],
     log: &mut [u16],
-) -> usize {
+) -> usize
+    ensures { λ r. ⌜ Answered {B = Logged} (λ t a. ReducesAll (q .l .n) (setOf (q .l .x) (q .l .z) (q .l .p) (now (x .entry)) (now (z .entry)) (now (p .entry))) (take (q .value) (now (log .entry))) (t .rows) (t .log) a) (λ t a. reduceLine a (t .log) (t .rows .xs) (t .rows .zs) (t .rows .es)) (now (out .entry)) at (now (out .exit)) r ⌝ }
+{
     let l = q.l;
     let i = clip(l.x, x.len());
     let j = clip(l.z, z.len());
@@ -79,7 +88,9 @@ pub fn check(
     cx: &[u64],
     cz: &[u64],
     cp: &[u8],
-) -> usize {
+) -> usize
+    ensures { λ r. ⌜ Answered (λ t v. Checked (task (q .l .n) (setOf (q .l .x) (q .l .z) (q .l .p) (now (x .entry)) (now (z .entry)) (now (p .entry))) (take (q .k .order) (now (order .entry))) (take (q .k .listed) (now (listed .entry))) (take (q .k .extra) (now (extra .entry)))) (claim (take (q .units) (now (log .entry))) (setOf (q .claim .x) (q .claim .z) (q .claim .p) (now (cx .entry)) (now (cz .entry)) (now (cp .entry)))) v t) (λ t v. checkLine v (t .xs) (t .zs) (t .es)) (now (out .entry)) at (now (out .exit)) r ⌝ }
+{
     let l = q.l;
     let k = q.k;
     let d = q.claim;
