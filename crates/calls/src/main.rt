@@ -1,31 +1,16 @@
 // One call a line on standard input, one answer a line on standard output; docs/CALLS.md says how they are written.
 // The fields of a line are read into arrays, the call is made on the parts that were filled, and the answer is written.
-// A line that is not of its form, or has more than the arrays take, is answered `bad line`.
-mod checking;
 mod elements;
 mod lent;
-mod names;
-mod pair;
 mod reducing;
 mod rows;
-mod say;
-mod sets;
 mod word;
 
 use linein::Cursor;
 use linein::ROOM;
-
-// The most elements that a list of a line may have. Each reaches past what the library takes, so that a line can ask for
-// more and have it refused: 257 rows of 1,088 qubits have 4,369 words.
-const WORDS: usize = 4608;
-
-const ROWS: usize = 320;
-
-const LIST: usize = 8192;
-
-const LOG: usize = 140000;
-
-const TERMS: usize = 65600;
+use questions::LOG;
+use questions::TERMS;
+use questions::names;
 
 // Where reading and writing stand after a case. What is at hand is the line's end, or the cursor is bad.
 struct State {
@@ -138,7 +123,7 @@ fn logged(
     match name {
         names::REDUCE => reducing::reduce(buf, c, out, at, log),
         names::REDUCE_ALL => reducing::reduce_all(buf, c, out, at, log),
-        names::CHECK => checking::check(buf, c, out, at, log),
+        names::CHECK => reducing::check(buf, c, out, at, log),
         _ => small(buf, c, out, at, name),
     }
 }
@@ -159,7 +144,7 @@ fn small(buf: &mut [u8; ROOM], c: Cursor, out: &mut [u8; ROOM], at: usize, name:
         names::SET => lent::set(buf, c, out, at),
         names::ACT => lent::act(buf, c, out, at),
         names::MATRIX => lent::matrix(buf, c, out, at),
-        names::PAIRWISE => pair::pairwise(buf, c, out, at),
+        names::PAIRWISE => lent::pairwise(buf, c, out, at),
         _ => {
             let c = linein::spoiled(c);
             State { c, at }
@@ -170,17 +155,10 @@ fn small(buf: &mut [u8; ROOM], c: Cursor, out: &mut [u8; ROOM], at: usize, name:
 // What follows a case: its line end, and `bad line` where it was bad. What waits is written out before more is read, so
 // that whoever asks line by line has the answer.
 fn finish(buf: &mut [u8; ROOM], c: Cursor, out: &mut [u8; ROOM], at: usize) -> State {
-    let at = ended(out, at, c.bad);
+    let at = answers::ended(out, at, c.bad);
     let at = drained(out, at, c.at < c.end);
     let c = linein::skip_line(buf, c);
     State { c, at }
-}
-
-fn ended(out: &mut [u8; ROOM], at: usize, bad: bool) -> usize {
-    if bad {
-        return lineout::text(out, at, b"bad line\n");
-    }
-    lineout::byte(out, at, b'\n')
 }
 
 fn drained(out: &[u8; ROOM], at: usize, more: bool) -> usize {

@@ -43,7 +43,6 @@ module _ {A : Type 0} {c d : Cursor} {s t : List A} {most n : ℕ} (f : Filling 
       rw (e .1)
       (record {
         onward = then (then p (f .onward)) (e .0);
-        fits = omega (arith, f .below, f .start);
-        same = f .long ∙ sym (f .start);
-        rest = f .rest;
+        filled =
+            record { fits = omega (arith, f .below, f .start); same = f .long ∙ sym (f .start); rest = f .rest };
       })

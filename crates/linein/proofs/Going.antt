@@ -1,12 +1,12 @@
 -- Cursors go onward: the steps that the readers are made of, and their composition.
 use mathlib.Core.Path.{_≡_, refl, sym, ap, subst, _∙_}
-use mathlib.Core.Bool.{Bool, true, false}
+use mathlib.Core.Bool.{Bool, true, false, cond}
 use mathlib.Core.List.{List}
 use native.Mathlib.Omega.{arith}
-use lib.Dec.{T}
+use lib.Dec.{T, eqb}
 use Prim.Native.Nat.{ℕ, _≤_, _<_}
 use Rattle.linein.specs.declared.cursor.Cursor.{Cursor}
-use Rattle.linein.specs.Reading.{Sound, Onward, Next, Passed, mark, atEnd, step}
+use Rattle.linein.specs.Reading.{Sound, Onward, Next, Passed, mark, atEnd, endOf, step}
 
 pub true-false : true ≡ false → ⊥
 true-false e = subst T e tt
@@ -18,12 +18,24 @@ pub then : {a b c : Cursor} → Onward a b → Onward b c → Onward a c
 then f g =
     record { sound = λ h. g .sound (f .sound h); over = λ h. g .over (f .over h); bad = λ h. g .bad (f .bad h) }
 
+-- by three steps
+pub on : {a b c d : Cursor} → Onward a b → Onward b c → Onward c d → Onward a d
+on f g h = then (then f g) h
+
 pub mark-sound : (c : Cursor) (b : Bool) → Sound c → Sound (mark c b)
 mark-sound c b h = record { rising = h .rising; room = h .room; last = h .last }
 
 -- to a spoiled cursor
 pub spoils : {c r : Cursor} → r ≡ mark c true → Onward c r
 spoils {c} e = rw e (record { sound = mark-sound c true; over = λ h. h; bad = λ h. refl })
+
+either : (b : Bool) (c : Cursor) → Onward c (cond b c (mark c true))
+either true c = still c
+either false c = spoils refl
+
+-- to a line's end, which has to be at hand
+pub to-end : {c d r : Cursor} → Onward c d → r ≡ endOf d → Onward c r
+to-end {d = d} o e = rw e (then o (either (eqb (d .byte) 10) d))
 
 pub end-sound : (b : Bool) → Sound (atEnd b)
 end-sound b = record { rising = omega arith; room = omega arith; last = λ h. refl }

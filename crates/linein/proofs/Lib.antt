@@ -1,3 +1,4 @@
 pub mod Going
 pub mod Growing
 pub mod Filling
+pub mod Parts

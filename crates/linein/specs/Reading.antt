@@ -50,9 +50,13 @@ pub record Passed (c : Cursor) (b : ℕ) (s : List ℕ) (r : Cursor) (t : List �
 abbrev pub endOf : Cursor → Cursor
 endOf c = cond (eqb (c .byte) 10) c (mark c true)
 
--- a list was read at c into the slice that held s and holds t now: its elements fit, and the places after them are as they were
+-- k elements were read into a slice that held s and holds t now: they fit, and the places after them are as they were
+pub record Filled {A : Type 0} (k : ℕ) (s t : List A) : Type 0 where
+  pub fits : k ≤ length s
+  pub same : length t ≡ length s
+  pub rest : drop k t ≡ drop k s
+
+-- a list was read at c into such a slice
 pub record Listed {A : Type 0} (c : Cursor) (s : List A) (r : Elements) (t : List A) : Type 0 where
   pub onward : Onward c (r .c)
-  pub fits : r .count ≤ length s
-  pub same : length t ≡ length s
-  pub rest : drop (r .count) t ≡ drop (r .count) s
+  pub filled : Filled (r .count) s t

@@ -1,3 +1,4 @@
 pub mod Writes
 pub mod Lists
 pub mod Numbers
+pub mod Determined

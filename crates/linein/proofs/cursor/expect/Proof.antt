@@ -4,12 +4,6 @@ use Rattle.linein.proofs.Going.{pass-right, pass-wrong}
 use Rattle.linein.proofs.cursor.expect.Statement.{statement}
 use Rattle.linein.proofs.cursor.expect.Tie as tie
 
-next-requires : tie.Need-next-requires
-next-requires c κs = search needs
-
-spoiled-requires : tie.Need-spoiled-requires
-spoiled-requires c κs = search needs
-
 returns : tie.Need-returns
 returns c = pass-right (c .before .before .if1 .taken) (c .next .ensures)
 
@@ -17,4 +11,4 @@ returns-2 : tie.Need-returns-2
 returns-2 c = pass-wrong _ (c .before .if1 .left) (c .spoiled .ensures)
 
 pub expect-spec : {M : Type 1} → statement M
-expect-spec = tie.close (tie.spec next-requires spoiled-requires returns returns-2)
+expect-spec = tie.close (tie.spec (λ c κs. search needs) (λ c κs. search needs) returns returns-2)

@@ -9,17 +9,8 @@ use Rattle.linein.proofs.cursor.next.Tie as tie
 returns : tie.Need-returns
 returns c = next-ended _ _ (c .if1 .taken)
 
-add-t7 : tie.Need-add-t7
-add-t7 c = search needs
-
-element-copy-out-t10 : tie.Need-element-copy-out-t10
-element-copy-out-t10 c = search needs
-
 returns-2 : tie.Need-returns-2
 returns-2 c = next-held _ _ (c .before .before .before .if1 .left) (c .before .before .if2 .taken)
-
-refill-requires : tie.Need-refill-requires
-refill-requires c κs = search needs
 
 returns-3 : tie.Need-returns-3
 returns-3 c =
@@ -29,4 +20,4 @@ returns-3 c =
 
 pub next-spec : {M : Type 1} → statement M
 next-spec =
-    tie.close (tie.spec returns add-t7 element-copy-out-t10 returns-2 refill-requires returns-3)
+    tie.close (tie.spec returns (λ c. search needs) (λ c. search needs) returns-2 (λ c κs. search needs) returns-3)

@@ -13,29 +13,11 @@ abbrev μ-loop : tie.MeasureT-loop
 loop-holds : tie.Need-loop-holds Inv-loop μ-loop
 loop-holds c = still _
 
-next-requires : tie.Need-next-requires Inv-loop μ-loop
-next-requires c κs = search needs
-
-marked-requires : tie.Need-marked-requires Inv-loop μ-loop
-marked-requires c κs = search needs
-
 returns : tie.Need-returns Inv-loop μ-loop
 returns c = fresh-line (then (c .before .before .before .before .before .before .loop .inv) (c .before .next .ensures .onward)) (c .marked .ensures)
 
-next-requires-2 : tie.Need-next-requires-2 Inv-loop μ-loop
-next-requires-2 c κs = search needs
-
-sub-turns : tie.Need-sub-turns Inv-loop μ-loop
-sub-turns c = search needs
-
-loop-less : tie.Need-loop-less Inv-loop μ-loop
-loop-less c = search needs
-
 loop-again : tie.Need-loop-again Inv-loop μ-loop
 loop-again c = then (c .before .before .before .before .before .loop .inv) (c .next2 .ensures .onward)
-
-marked-requires-2 : tie.Need-marked-requires-2 Inv-loop μ-loop
-marked-requires-2 c κs = search needs
 
 returns-2 : tie.Need-returns-2 Inv-loop μ-loop
 returns-2 c = fresh-line (c .before .before .loop .inv) (c .marked2 .ensures)
@@ -47,12 +29,12 @@ skip-line-spec =
     Inv-loop
     μ-loop
     loop-holds
-    next-requires
-    marked-requires
+    (λ c κs. search needs)
+    (λ c κs. search needs)
     returns
-    next-requires-2
-    sub-turns
-    loop-less
+    (λ c κs. search needs)
+    (λ c. search needs)
+    (λ c. search needs)
     loop-again
-    marked-requires-2
+    (λ c κs. search needs)
     returns-2)

@@ -9,9 +9,6 @@ use borrow.Author.Needs.{needs}
 use Rattle.linein.proofs.list.negative.Statement.{statement}
 use Rattle.linein.proofs.list.negative.Tie as tie
 
-cast-result : tie.Need-cast-result
-cast-result c = search needs
-
 small : (m : ℕ) → m ≤ 2147483647 → mag (pos 0 -ℤ pos m) < 2147483648
 small zero h = omega arith
 small (suc m) h = rw (+ℤ-idl (negsuc m)) (omega arith)
@@ -22,11 +19,5 @@ sub-result c =
     let h2 : c .before .args .n < 2147483648 = omega arith in
     record { sfits = rw (toZ-pos w32 h2) (small (c .before .args .n) h) }
 
-returns : tie.Need-returns
-returns c = search needs
-
-returns-2 : tie.Need-returns-2
-returns-2 c = search needs
-
 pub negative-spec : {M : Type 1} → statement M
-negative-spec = tie.close (tie.spec cast-result sub-result returns returns-2)
+negative-spec = tie.close (tie.spec (λ c. search needs) sub-result (λ c. search needs) (λ c. search needs))

@@ -4,14 +4,8 @@ use Rattle.linein.proofs.Going.{then}
 use Rattle.linein.proofs.number.bounded.Statement.{statement}
 use Rattle.linein.proofs.number.bounded.Tie as tie
 
-decimal-requires : tie.Need-decimal-requires
-decimal-requires c κs = search needs
-
-within-requires : tie.Need-within-requires
-within-requires c κs = search needs
-
 returns : tie.Need-returns
 returns c = (then (c .before .decimal .ensures) (c .within .ensures .0), c .within .ensures .1)
 
 pub bounded-spec : {M : Type 1} → statement M
-bounded-spec = tie.close (tie.spec decimal-requires within-requires returns)
+bounded-spec = tie.close (tie.spec (λ c κs. search needs) (λ c κs. search needs) returns)

@@ -9,12 +9,6 @@ mul-t c =
     record
     { fits = omega (arith, moves (c .before .args .base) (c .before .args .room) (c .before .pre .0) (c .before .pre .1) (c .before .args .v) (c .if1 .taken)) }
 
-sub-if2 : tie.Need-sub-if2
-sub-if2 c = search needs
-
-add-t9 : tie.Need-add-t9
-add-t9 c = search needs
-
 returns : tie.Need-returns
 returns c = grows _
 
@@ -28,4 +22,4 @@ returns-3 c =
     (arith, outgrown (c .before .args .base) (c .before .args .room) (c .before .pre .0) (c .before .pre .1) (c .before .args .v) (c .if1 .left)))
 
 pub grown-spec : {M : Type 1} → statement M
-grown-spec = tie.close (tie.spec mul-t sub-if2 add-t9 returns returns-2 returns-3)
+grown-spec = tie.close (tie.spec mul-t (λ c. search needs) (λ c. search needs) returns returns-2 returns-3)

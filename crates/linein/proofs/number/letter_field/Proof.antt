@@ -4,20 +4,8 @@ use Rattle.linein.proofs.Going.{then, spoils}
 use Rattle.linein.proofs.number.letter_field.Statement.{statement}
 use Rattle.linein.proofs.number.letter_field.Tie as tie
 
-expect-requires : tie.Need-expect-requires
-expect-requires c κs = search needs
-
-at-end-requires : tie.Need-at-end-requires
-at-end-requires c κs = search needs
-
-spoiled-requires : tie.Need-spoiled-requires
-spoiled-requires c κs = search needs
-
 returns : tie.Need-returns
 returns c = then (c .before .before .before .expect .ensures .onward) (spoils (c .spoiled .ensures))
-
-next-requires : tie.Need-next-requires
-next-requires c κs = search needs
 
 returns-2 : tie.Need-returns-2
 returns-2 c = then (c .before .before .before .before .expect .ensures .onward) (c .next .ensures .onward)
@@ -25,4 +13,4 @@ returns-2 c = then (c .before .before .before .before .expect .ensures .onward) 
 pub letter-field-spec : {M : Type 1} → statement M
 letter-field-spec =
     tie.close
-    (tie.spec expect-requires at-end-requires spoiled-requires returns next-requires returns-2)
+    (tie.spec (λ c κs. search needs) (λ c κs. search needs) (λ c κs. search needs) returns (λ c κs. search needs) returns-2)

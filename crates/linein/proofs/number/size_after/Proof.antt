@@ -4,14 +4,8 @@ use Rattle.linein.proofs.Going.{then}
 use Rattle.linein.proofs.number.size_after.Statement.{statement}
 use Rattle.linein.proofs.number.size_after.Tie as tie
 
-expect-requires : tie.Need-expect-requires
-expect-requires c κs = search needs
-
-bounded-requires : tie.Need-bounded-requires
-bounded-requires c κs = search needs
-
 returns : tie.Need-returns
 returns c = (then (c .before .before .before .expect .ensures .onward) (c .before .bounded .ensures .0), c .before .bounded .ensures .1)
 
 pub size-after-spec : {M : Type 1} → statement M
-size-after-spec = tie.close (tie.spec expect-requires bounded-requires returns)
+size-after-spec = tie.close (tie.spec (λ c κs. search needs) (λ c κs. search needs) returns)

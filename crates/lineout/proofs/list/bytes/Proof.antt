@@ -14,29 +14,8 @@ Inv-loop out₀ at xs at₀ i₀ out at' i = (i ≤ length xs) × Said (Started 
 abbrev μ-loop : tie.MeasureT-loop
 μ-loop out₀ at xs at₀ i₀ out at' i = length xs - i
 
-or-none-requires : tie.Need-or-none-requires Inv-loop μ-loop
-or-none-requires c κs = search needs
-
 loop-holds : tie.Need-loop-holds Inv-loop μ-loop
 loop-holds c = (search needs, begun _ _ _)
-
-between-requires : tie.Need-between-requires Inv-loop μ-loop
-between-requires c κs = search needs
-
-shared-slice-read-wide8 : tie.Need-shared-slice-read-wide8 Inv-loop μ-loop
-shared-slice-read-wide8 c = search needs
-
-wide8-requires : tie.Need-wide8-requires Inv-loop μ-loop
-wide8-requires c κs = search needs
-
-decimal-requires : tie.Need-decimal-requires Inv-loop μ-loop
-decimal-requires c κs = search needs
-
-add-i : tie.Need-add-i Inv-loop μ-loop
-add-i c = search needs
-
-loop-less : tie.Need-loop-less Inv-loop μ-loop
-loop-less c = search needs
 
 loop-again : tie.Need-loop-again Inv-loop μ-loop
 loop-again c = (search needs, more (c .before .before .before .before .before .before .before .loop .inv .1) (c .before .before .before .before .between .ensures) (rw (c .before .wide8 .ensures) at (c .decimal .ensures)))
@@ -50,13 +29,13 @@ bytes-spec =
     (tie.spec
     Inv-loop
     μ-loop
-    or-none-requires
+    (λ c κs. search needs)
     loop-holds
-    between-requires
-    shared-slice-read-wide8
-    wide8-requires
-    decimal-requires
-    add-i
-    loop-less
+    (λ c κs. search needs)
+    (λ c. search needs)
+    (λ c κs. search needs)
+    (λ c κs. search needs)
+    (λ c. search needs)
+    (λ c. search needs)
     loop-again
     returns)

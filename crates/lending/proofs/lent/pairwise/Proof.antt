@@ -1,0 +1,38 @@
+use borrow.Author.Needs.{needs}
+use Rattle.lending.proofs.Clipped.{clipped}
+use Rattle.lending.proofs.lent.pairwise.Statement.{statement}
+use Rattle.lending.proofs.lent.pairwise.Tie as tie
+
+returns : tie.Need-returns
+returns c =
+    let a = c .before .before .before .before .before .before .before .before .before .before .before .before .before .before .before .before .before .before .before .before .before .before .before .before .before .before .before .before .before .before .before .before .args in
+    let h = rw (c .before .before .before .before .before .before .before .before .before .before .before .before .before .before .before .first-words .ensures, c .before .before .before .before .before .before .before .before .before .before .before .before .before .before .first-words2 .ensures, c .before .before .before .before .before .before .before .before .before .before .before .before .before .first-bytes .ensures, c .before .before .before .before .before .before .before .before .before .before .before .before .first-words3 .ensures, c .before .before .before .before .before .before .before .before .before .before .before .first-words4 .ensures, c .before .before .before .before .before .before .before .before .before .before .first-bytes2 .ensures, clipped (a .q .o .x) (a .x .now) (c .before .before .before .before .before .before .before .before .before .before .before .before .before .before .before .before .before .before .before .clip .ensures .1), clipped (a .q .o .z) (a .z .now) (c .before .before .before .before .before .before .before .before .before .before .before .before .before .before .before .before .before .before .clip2 .ensures .1), clipped (a .q .o .p) (a .p .now) (c .before .before .before .before .before .before .before .before .before .before .before .before .before .before .before .before .before .clip3 .ensures .1)) at (c .before .before .before .before .before .before .pairwise .ensures) in
+    record { left = _; given = h .given; call = h .call; said = h .said }
+
+pub pairwise-spec : {M : Type 1} → statement M
+pairwise-spec =
+    tie.close
+    (tie.spec
+    (λ c κs. search needs)
+    (λ c κs. search needs)
+    (λ c κs. search needs)
+    (λ c κs. search needs)
+    (λ c κs. search needs)
+    (λ c κs. search needs)
+    (λ c κs. search needs)
+    (λ c κs. search needs)
+    (λ c κs. search needs)
+    (λ c. search needs)
+    (λ c. search needs)
+    (λ c. search needs)
+    (λ c. search needs)
+    (λ c. search needs)
+    (λ c. search needs)
+    (λ c. search needs)
+    (λ c. search needs)
+    (λ c. search needs)
+    (λ c κs. search needs)
+    (λ c. search needs)
+    (λ c. search needs)
+    (λ c. search needs)
+    returns)

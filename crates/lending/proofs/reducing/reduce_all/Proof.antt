@@ -1,0 +1,37 @@
+use borrow.Author.Needs.{needs}
+use Rattle.lending.proofs.Clipped.{clipped}
+use Rattle.lending.proofs.reducing.reduce_all.Statement.{statement}
+use Rattle.lending.proofs.reducing.reduce_all.Tie as tie
+
+returns : tie.Need-returns
+returns c =
+    let a = c .before .before .before .before .before .before .before .before .before .before .before .before .before .before .before .before .before .before .before .before .before .before .before .args in
+    let h = rw (clipped (a .q .l .x) (a .x .now) (c .before .before .before .before .before .before .before .before .before .before .before .before .before .before .before .before .before .clip .ensures .1), clipped (a .q .l .z) (a .z .now) (c .before .before .before .before .before .before .before .before .before .before .before .before .before .before .before .before .clip2 .ensures .1), clipped (a .q .l .p) (a .p .now) (c .before .before .before .before .before .before .before .before .before .before .before .before .before .before .before .clip3 .ensures .1), clipped (a .q .value) (a .log .now) (c .before .before .before .before .before .before .before .before .before .before .before .before .before .before .clip4 .ensures .1)) at (c .before .before .before .before .before .before .before .before .reduce-all .ensures) in
+    record { left = record { rows = _; log = _ }; given = h .given; call = h .call; said = h .said }
+
+pub reduce-all-spec : {M : Type 1} → statement M
+reduce-all-spec =
+    tie.close
+    (tie.spec
+    (λ c κs. search needs)
+    (λ c κs. search needs)
+    (λ c κs. search needs)
+    (λ c κs. search needs)
+    (λ c. search needs)
+    (λ c. search needs)
+    (λ c. search needs)
+    (λ c. search needs)
+    (λ c. search needs)
+    (λ c. search needs)
+    (λ c. search needs)
+    (λ c. search needs)
+    (λ c. search needs)
+    (λ c. search needs)
+    (λ c. search needs)
+    (λ c. search needs)
+    (λ c κs. search needs)
+    (λ c. search needs)
+    (λ c. search needs)
+    (λ c. search needs)
+    (λ c. search needs)
+    returns)

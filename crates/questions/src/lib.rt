@@ -1,0 +1,45 @@
+// The calls of docs/CALLS.md as they stand on a line, after their names: fields are read into arrays that the caller lends,
+// and numbers are handed back with the cursor. The cursor is bad where the line is not of its form, or has more than the
+// arrays take; the caller tests that once a line.
+mod lists;
+pub mod names;
+mod rows;
+mod sets;
+mod terms;
+mod words;
+
+pub use lists::Check;
+pub use lists::Lists;
+pub use lists::Reduce;
+pub use lists::read_check;
+pub use lists::read_reduce;
+pub use rows::OnState;
+pub use rows::OneNumber;
+pub use rows::Pairwise;
+pub use rows::Target;
+pub use rows::TwoNumbers;
+pub use rows::read_on_state;
+pub use rows::read_one_number;
+pub use rows::read_pairwise;
+pub use rows::read_target;
+pub use rows::read_two_numbers;
+pub use sets::Lengths;
+pub use terms::Terms;
+pub use terms::read_float;
+pub use terms::read_whole;
+pub use words::FourWords;
+pub use words::ThreeWords;
+pub use words::read_four_words;
+pub use words::read_three_words;
+
+// The most elements that a list of a line may have. Each reaches past what the library takes, so that a line can ask for
+// more and have it refused: 257 rows of 1,088 qubits have 4,369 words.
+pub const WORDS: usize = 4608;
+
+pub const ROWS: usize = 320;
+
+pub const LIST: usize = 8192;
+
+pub const LOG: usize = 140000;
+
+pub const TERMS: usize = 65600;
