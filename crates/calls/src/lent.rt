@@ -43,7 +43,8 @@ pub(crate) fn matrix(buf: &mut [u8; ROOM], c: Cursor, out: &mut [u8; ROOM], at: 
     let mut x = [0u64; WORDS];
     let mut z = [0u64; WORDS];
     let mut p = [0u8; ROWS];
-    let mut m = [0u64; WORDS];
+    // all ones, so that an answer shows what a call fails to write
+    let mut m = [u64::MAX; WORDS];
     let q = questions::read_one_number(buf, c, &mut x, &mut z, &mut p, WORDS);
     let c = q.c;
     if c.bad {
@@ -82,8 +83,8 @@ fn product(
     rz: &[u64; WORDS],
     rp: &[u8; ROWS],
 ) -> usize {
-    let mut x = [0u64; WORDS];
-    let mut z = [0u64; WORDS];
-    let mut p = [0u8; ROWS];
+    let mut x = [u64::MAX; WORDS];
+    let mut z = [u64::MAX; WORDS];
+    let mut p = [u8::MAX; ROWS];
     lending::pairwise(out, at, q, lx, lz, lp, rx, rz, rp, &mut x, &mut z, &mut p)
 }
