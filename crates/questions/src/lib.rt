@@ -1,13 +1,16 @@
 // The calls of docs/CALLS.md as they stand on a line, after their names: fields are read into arrays that the caller lends,
 // and numbers are handed back with the cursor. The cursor is bad where the line is not of its form, or has more than the
 // arrays take; the caller tests that once a line.
+mod elements;
 mod lists;
 pub mod names;
 mod rows;
 mod sets;
-mod terms;
 mod words;
 
+pub use elements::Terms;
+pub use elements::read_float;
+pub use elements::read_whole;
 pub use lists::Check;
 pub use lists::Lists;
 pub use lists::Reduce;
@@ -24,9 +27,6 @@ pub use rows::read_pairwise;
 pub use rows::read_target;
 pub use rows::read_two_numbers;
 pub use sets::Lengths;
-pub use terms::Terms;
-pub use terms::read_float;
-pub use terms::read_whole;
 pub use words::FourWords;
 pub use words::ThreeWords;
 pub use words::read_four_words;

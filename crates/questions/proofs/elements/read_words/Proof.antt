@@ -1,7 +1,7 @@
 use borrow.Author.Needs.{needs}
 use Rattle.linein.proofs.Going.{on}
-use Rattle.questions.proofs.terms.read_words.Statement.{statement}
-use Rattle.questions.proofs.terms.read_words.Tie as tie
+use Rattle.questions.proofs.elements.read_words.Statement.{statement}
+use Rattle.questions.proofs.elements.read_words.Tie as tie
 
 returns : tie.Need-returns
 returns c = (on (c .before .before .before .before .before .before .before .before .before .read-any .ensures) (c .before .before .before .before .before .words .ensures .onward) (c .before .words2 .ensures .onward), c .before .before .before .before .before .words .ensures .filled, c .before .words2 .ensures .filled)

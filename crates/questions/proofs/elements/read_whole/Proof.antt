@@ -1,7 +1,7 @@
 use borrow.Author.Needs.{needs}
 use Rattle.linein.proofs.Going.{then, on}
-use Rattle.questions.proofs.terms.read_whole.Statement.{statement}
-use Rattle.questions.proofs.terms.read_whole.Tie as tie
+use Rattle.questions.proofs.elements.read_whole.Statement.{statement}
+use Rattle.questions.proofs.elements.read_whole.Tie as tie
 
 returns : tie.Need-returns
 returns c = let e = c .read-between .ensures in (then (on (c .before .before .before .before .before .before .before .before .before .before .before .read-words .ensures .0) (c .before .before .before .before .before .before .before .ints .ensures .onward) (c .before .before .before .ints2 .ensures .onward)) (e .0), rw (e .1) (c .before .before .before .before .before .before .before .before .before .before .before .read-words .ensures .1), rw (e .2) (c .before .before .before .before .before .before .before .before .before .before .before .read-words .ensures .2), rw (e .3) (c .before .before .before .before .before .before .before .ints .ensures .filled), rw (e .4) (c .before .before .before .ints2 .ensures .filled))
