@@ -6,7 +6,7 @@ use native.Mathlib.Omega.{arith}
 use lib.Dec.{T, eqb}
 use Prim.Native.Nat.{ℕ, _≤_, _<_}
 use Rattle.linein.specs.declared.cursor.Cursor.{Cursor}
-use Rattle.linein.specs.Reading.{Sound, Onward, Next, Passed, mark, atEnd, endOf, step}
+use Rattle.linein.specs.Reading.{Sound, Onward, Next, Passed, mark, atEnd, endOf, step, roomIn}
 
 pub true-false : true ≡ false → ⊥
 true-false e = subst T e tt
@@ -41,7 +41,7 @@ pub end-sound : (b : Bool) → Sound (atEnd b)
 end-sound b = record { rising = omega arith; room = omega arith; last = λ h. refl }
 
 -- while the input lasts
-pub live : {c : Cursor} → c .at ≤ c .end → c .end ≤ 65536 → c .over ≡ false → Sound c
+pub live : {c : Cursor} → c .at ≤ c .end → c .end ≤ roomIn → c .over ≡ false → Sound c
 live {c} a b e = record { rising = a; room = b; last = λ h. absurd (true-false (sym h ∙ e)) }
 
 -- the three ways of one byte more: at the end, in the buffer, and by another read
@@ -66,7 +66,7 @@ pub next-read :
     {c r : Cursor}
     (s t : List ℕ)
     → c .over ≡ false
-    → (c .at < c .end → c .end ≤ 65536 → ⊥)
+    → (c .at < c .end → c .end ≤ roomIn → ⊥)
     → Sound r × (r .bad ≡ c .bad)
     → Next c s r t
 next-read s t e l h =

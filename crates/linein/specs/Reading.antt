@@ -10,10 +10,14 @@ use lib.ListN.{length, getD, drop}
 use Rattle.linein.specs.declared.cursor.Cursor.{Cursor}
 use Rattle.linein.specs.declared.list.Elements.{Elements}
 
+-- the bytes of a buffer; the code's ROOM follows it
+abbrev pub roomIn : ℕ
+roomIn = 65536
+
 -- the bytes still to be handed out lie in the buffer, and the end of the input is a line end
 pub record Sound (c : Cursor) : Type 0 where
   pub rising : c .at ≤ c .end
-  pub room : c .end ≤ 65536
+  pub room : c .end ≤ roomIn
   pub last : c .over ≡ true → c .byte ≡ 10
 
 -- r is where reading may stand after it stood at c, on the same line
@@ -37,7 +41,7 @@ step c s = record { at = c .at + 1; end = c .end; byte = getD s (c .at) 0; over 
 -- from c and a buffer that holds s to r and a buffer that holds t: the next byte of the buffer as long as it has one
 pub record Next (c : Cursor) (s : List ℕ) (r : Cursor) (t : List ℕ) : Type 0 where
   pub onward : Onward c r
-  pub held : c .over ≡ false → c .at < c .end → c .end ≤ 65536 → (r ≡ step c s) × (t ≡ s)
+  pub held : c .over ≡ false → c .at < c .end → c .end ≤ roomIn → (r ≡ step c s) × (t ≡ s)
   pub ended : c .over ≡ true → (r ≡ c) × (t ≡ s)
 
 -- the same past the byte b; c is spoiled, and nothing read, where another byte is at hand

@@ -6,7 +6,7 @@ use native.Mathlib.Numerals.{add-one}
 use Prim.Native.Nat.{ℕ, _+_, _≤_, _<_}
 use lib.ListN.{length, getD, take, set, length-set, length-append}
 use lib.Seq.{take-suc-set, take-suc, take-all}
-use Rattle.lineout.specs.Writing.{Wrote}
+use Rattle.lineout.specs.Writing.{Wrote, roomOut}
 
 pub nothing : (s : List ℕ) (at : ℕ) → Wrote s at [] s at
 nothing s at = record { same = refl; room = λ h. h; waits = λ l h. (omega arith, sym (append-nil _)) }
@@ -26,7 +26,7 @@ then {s} {t} {u} {at} {r} {q} {w} {v} f g =
     }
 
 -- one byte, where there is room for it and where the buffer was written out first
-pub put : (s : List ℕ) (at b : ℕ) → at < 65536 → Wrote s at (b ∷ []) (set s at b) (at + 1)
+pub put : (s : List ℕ) (at b : ℕ) → at < roomOut → Wrote s at (b ∷ []) (set s at b) (at + 1)
 put s at b h =
     record {
       same = length-set s at b;
@@ -34,7 +34,7 @@ put s at b h =
       waits = λ l g. (refl, rw (add-one at) (take-suc-set s at b (omega (arith, l))));
     }
 
-pub emptied : (s : List ℕ) (at b : ℕ) → 65536 ≤ at → Wrote s at (b ∷ []) (set s 0 b) 1
+pub emptied : (s : List ℕ) (at b : ℕ) → roomOut ≤ at → Wrote s at (b ∷ []) (set s 0 b) 1
 emptied s at b h =
     record {
       same = length-set s 0 b;
