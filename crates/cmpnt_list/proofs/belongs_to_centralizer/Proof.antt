@@ -12,9 +12,6 @@ use Rattle.cmpnt_list.specs.declared.Truth.the-variants as truth
 use Rattle.cmpnt_list.proofs.belongs_to_centralizer.Statement.{statement}
 use Rattle.cmpnt_list.proofs.belongs_to_centralizer.Tie as tie
 
-row-fault-requires : tie.Need-row-fault-requires
-row-fault-requires c κs = search needs
-
 returns : tie.Need-returns
 unfolding belongsToCentralizer
 returns c =
@@ -38,4 +35,4 @@ returns-2 c =
 
 pub belongs-to-centralizer-spec : {M : Type 1} → statement M
 belongs-to-centralizer-spec =
-    tie.close (tie.spec row-fault-requires returns central-row-requires returns-2)
+    tie.close (tie.spec (λ c κs. search needs) returns central-row-requires returns-2)

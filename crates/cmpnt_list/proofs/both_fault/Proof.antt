@@ -7,15 +7,6 @@ use Rattle.cmpnt_list.proofs.Tests.{both-ready}
 use Rattle.cmpnt_list.proofs.both_fault.Statement.{statement}
 use Rattle.cmpnt_list.proofs.both_fault.Tie as tie
 
-set-fault-requires : tie.Need-set-fault-requires
-set-fault-requires c κs = search needs
-
-set-fault-requires-2 : tie.Need-set-fault-requires-2
-set-fault-requires-2 c κs = search needs
-
-smaller-requires : tie.Need-smaller-requires
-smaller-requires c κs = search needs
-
 returns : tie.Need-returns
 returns c =
     let r = c .before in
@@ -29,4 +20,4 @@ returns c =
 
 pub both-fault-spec : {M : Type 1} → statement M
 both-fault-spec =
-    tie.close (tie.spec set-fault-requires set-fault-requires-2 smaller-requires returns)
+    tie.close (tie.spec (λ c κs. search needs) (λ c κs. search needs) (λ c κs. search needs) returns)

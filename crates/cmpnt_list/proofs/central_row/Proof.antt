@@ -43,12 +43,6 @@ returns c =
     let h : w .loop .k < length (a .phases .now) = omega arith in
     sym (every-not f (length (a .phases .now)) (w .loop .k) h (sym (c .before .commute-rows .ensures) ∙ not-true _ (c .if1 .taken)))
 
-add-k : tie.Need-add-k Inv-loop μ-loop
-add-k c = search needs
-
-loop-less : tie.Need-loop-less Inv-loop μ-loop
-loop-less c = search needs
-
 loop-again : tie.Need-loop-again Inv-loop μ-loop
 loop-again c =
     let s = c .before .before .before .before .before .before .before in
@@ -78,7 +72,7 @@ central-row-spec =
     loop-holds
     commute-rows-requires
     returns
-    add-k
-    loop-less
+    (λ c. search needs)
+    (λ c. search needs)
     loop-again
     returns-2)

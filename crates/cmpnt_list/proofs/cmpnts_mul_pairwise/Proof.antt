@@ -10,24 +10,6 @@ use Rattle.cmpnt_list.specs.Calls.{pairs}
 use Rattle.cmpnt_list.proofs.cmpnts_mul_pairwise.Statement.{statement}
 use Rattle.cmpnt_list.proofs.cmpnts_mul_pairwise.Tie as tie
 
-both-fault-requires : tie.Need-both-fault-requires
-both-fault-requires c κs = search needs
-
-third-fault-requires : tie.Need-third-fault-requires
-third-fault-requires c κs = search needs
-
-smaller-requires : tie.Need-smaller-requires
-smaller-requires c κs = search needs
-
-same-length : tie.Need-same-length
-same-length c = search needs
-
-same-length-2 : tie.Need-same-length-2
-same-length-2 c = search needs
-
-same-length-3 : tie.Need-same-length-3
-same-length-3 c = search needs
-
 returns : tie.Need-returns
 returns c =
     let s = c .before .before .before .before .before .before .before .before .before .before .before .before .before .before .before .before in
@@ -46,15 +28,6 @@ mul-rows-requires c κs =
     let p = least-none (f .result) (t .result) (sym (c .before .before .before .before .smaller .ensures) ∙ c .before .before .before .if1 .left) in
     (f .ensures .1 (p .0), t .ensures .1 (p .1))
 
-same-length-4 : tie.Need-same-length-4
-same-length-4 c = search needs
-
-same-length-5 : tie.Need-same-length-5
-same-length-5 c = search needs
-
-same-length-6 : tie.Need-same-length-6
-same-length-6 c = search needs
-
 returns-2 : tie.Need-returns-2
 returns-2 c =
     let s = c .before .before .before .before .before .before .before .before .before .before .before .before .before .before .before .before .before .before .before .before .before .before .before .before .before .before in
@@ -71,15 +44,15 @@ pub cmpnts-mul-pairwise-spec : {M : Type 1} → statement M
 cmpnts-mul-pairwise-spec =
     tie.close
     (tie.spec
-    both-fault-requires
-    third-fault-requires
-    smaller-requires
-    same-length
-    same-length-2
-    same-length-3
+    (λ c κs. search needs)
+    (λ c κs. search needs)
+    (λ c κs. search needs)
+    (λ c. search needs)
+    (λ c. search needs)
+    (λ c. search needs)
     returns
     mul-rows-requires
-    same-length-4
-    same-length-5
-    same-length-6
+    (λ c. search needs)
+    (λ c. search needs)
+    (λ c. search needs)
     returns-2)

@@ -12,9 +12,6 @@ use Rattle.cmpnt_list.proofs.Tests.{both-small}
 use Rattle.cmpnt_list.proofs.commutes_with.Statement.{statement}
 use Rattle.cmpnt_list.proofs.commutes_with.Tie as tie
 
-row-fault-requires : tie.Need-row-fault-requires
-row-fault-requires c κs = search needs
-
 returns : tie.Need-returns
 unfolding commutesWith
 returns c =
@@ -39,4 +36,4 @@ returns-2 c =
 
 pub commutes-with-spec : {M : Type 1} → statement M
 commutes-with-spec =
-    tie.close (tie.spec row-fault-requires returns commute-rows-requires returns-2)
+    tie.close (tie.spec (λ c κs. search needs) returns commute-rows-requires returns-2)

@@ -10,9 +10,6 @@ use Rattle.cmpnt_list.specs.Calls.{laidMatrix, commuting}
 use Rattle.cmpnt_list.proofs.compatibility_matrix.Statement.{statement}
 use Rattle.cmpnt_list.proofs.compatibility_matrix.Tie as tie
 
-matrix-fault-requires : tie.Need-matrix-fault-requires
-matrix-fault-requires c κs = search needs
-
 returns : tie.Need-returns
 returns c =
     let s = c .before .before .before .before .before .before in
@@ -28,9 +25,6 @@ fill-matrix-requires c κs =
     let k = c .before .before .matrix-fault .ensures .1 (c .before .if1 .left) in
     (k .ready, k .fits)
 
-same-length : tie.Need-same-length
-same-length c = search needs
-
 returns-2 : tie.Need-returns-2
 returns-2 c =
     let s = c .before .before .before .before .before .before .before .before .before .before in
@@ -44,4 +38,4 @@ returns-2 c =
 
 pub compatibility-matrix-spec : {M : Type 1} → statement M
 compatibility-matrix-spec =
-    tie.close (tie.spec matrix-fault-requires returns fill-matrix-requires same-length returns-2)
+    tie.close (tie.spec (λ c κs. search needs) returns fill-matrix-requires (λ c. search needs) returns-2)

@@ -12,9 +12,6 @@ use Rattle.cmpnt_list.specs.declared.Tally.the-variants as tally
 use Rattle.cmpnt_list.proofs.count.Statement.{statement}
 use Rattle.cmpnt_list.proofs.count.Tie as tie
 
-row-fault-requires : tie.Need-row-fault-requires
-row-fault-requires c κs = search needs
-
 returns : tie.Need-returns
 unfolding countIn
 returns c =
@@ -37,4 +34,4 @@ returns-2 c =
     ∙ passing (λ (k : ℕ). tallyOr k (countOf (a .n) (a .pauli) (rowsOf (a .n) M (a .row .0)))) (c .before .before .row-fault .ensures .0) (c .before .if1 .left)
 
 pub count-spec : {M : Type 1} → statement M
-count-spec = tie.close (tie.spec row-fault-requires returns count-in-requires returns-2)
+count-spec = tie.close (tie.spec (λ c κs. search needs) returns count-in-requires returns-2)

@@ -17,30 +17,6 @@ loop-holds c =
     let s = c .before .before in
     tallied-none (s .args .p) (s .args .x .now) (s .args .z .now) (s .pre .1)
 
-mul-count-word : tie.Need-mul-count-word Inv-loop μ-loop
-mul-count-word c = search needs
-
-shared-slice-read-count-word : tie.Need-shared-slice-read-count-word Inv-loop μ-loop
-shared-slice-read-count-word c = search needs
-
-mul-count-word-2 : tie.Need-mul-count-word-2 Inv-loop μ-loop
-mul-count-word-2 c = search needs
-
-shared-slice-read-count-word-2 : tie.Need-shared-slice-read-count-word-2 Inv-loop μ-loop
-shared-slice-read-count-word-2 c = search needs
-
-count-word-requires : tie.Need-count-word-requires Inv-loop μ-loop
-count-word-requires c κs = search needs
-
-add-k : tie.Need-add-k Inv-loop μ-loop
-add-k c = search needs
-
-add-i : tie.Need-add-i Inv-loop μ-loop
-add-i c = search needs
-
-loop-less : tie.Need-loop-less Inv-loop μ-loop
-loop-less c = search needs
-
 loop-again : tie.Need-loop-again Inv-loop μ-loop
 loop-again c =
     let i = c .before .before .before in
@@ -59,13 +35,13 @@ count-row-spec =
     Inv-loop
     μ-loop
     loop-holds
-    mul-count-word
-    shared-slice-read-count-word
-    mul-count-word-2
-    shared-slice-read-count-word-2
-    count-word-requires
-    add-k
-    add-i
-    loop-less
+    (λ c. search needs)
+    (λ c. search needs)
+    (λ c. search needs)
+    (λ c. search needs)
+    (λ c κs. search needs)
+    (λ c. search needs)
+    (λ c. search needs)
+    (λ c. search needs)
     loop-again
     returns)

@@ -13,27 +13,6 @@ use Rattle.cmpnt_list.proofs.count_word.Tie as tie
 enum-told : tie.Need-enum-told
 enum-told c = search needs
 
-count-requires : tie.Need-count-requires
-count-requires c κs = search needs
-
-enum-told-2 : tie.Need-enum-told-2
-enum-told-2 c = search needs
-
-count-requires-2 : tie.Need-count-requires-2
-count-requires-2 c κs = search needs
-
-enum-told-3 : tie.Need-enum-told-3
-enum-told-3 c = search needs
-
-count-requires-3 : tie.Need-count-requires-3
-count-requires-3 c κs = search needs
-
-enum-told-4 : tie.Need-enum-told-4
-enum-told-4 c = search needs
-
-count-requires-4 : tie.Need-count-requires-4
-count-requires-4 c κs = search needs
-
 returns : tie.Need-returns
 returns c =
     let s = c .before .before .before in
@@ -75,13 +54,13 @@ count-word-spec =
     tie.close
     (tie.spec
     enum-told
-    count-requires
-    enum-told-2
-    count-requires-2
-    enum-told-3
-    count-requires-3
-    enum-told-4
-    count-requires-4
+    (λ c κs. search needs)
+    (λ c. search needs)
+    (λ c κs. search needs)
+    (λ c. search needs)
+    (λ c κs. search needs)
+    (λ c. search needs)
+    (λ c κs. search needs)
     returns
     returns-2
     returns-3

@@ -18,9 +18,6 @@ Inv-loop n x z phases out₀ m i₀ out i = (m ≡ length phases) × (i ≤ m) �
 abbrev μ-loop : tie.MeasureT-loop
 μ-loop n x z phases out₀ m i₀ out i = m - i
 
-clear-requires : tie.Need-clear-requires Inv-loop μ-loop
-clear-requires c κs = search needs
-
 loop-holds : tie.Need-loop-holds Inv-loop μ-loop
 loop-holds c =
     let s = c .before .before .before .before .before .before .before .before in
@@ -37,19 +34,10 @@ mark-line-requires c κs =
     let h : w .loop .i < length (s .args .phases .now) = omega arith in
     (s .pre .0, (h, w .loop .inv .2))
 
-add-i : tie.Need-add-i Inv-loop μ-loop
-add-i c = search needs
-
-loop-less : tie.Need-loop-less Inv-loop μ-loop
-loop-less c = search needs
-
 loop-again : tie.Need-loop-again Inv-loop μ-loop
 loop-again c =
     let i = c .before .before .before .before in
     (i .before .loop .inv .0, omega arith, c .before .before .mark-line .ensures, c .slice-known3 .given)
-
-same-length : tie.Need-same-length Inv-loop μ-loop
-same-length c = search needs
 
 returns : tie.Need-returns Inv-loop μ-loop
 returns c =
@@ -66,11 +54,11 @@ fill-matrix-spec =
     (tie.spec
     Inv-loop
     μ-loop
-    clear-requires
+    (λ c κs. search needs)
     loop-holds
     mark-line-requires
-    add-i
-    loop-less
+    (λ c. search needs)
+    (λ c. search needs)
     loop-again
-    same-length
+    (λ c. search needs)
     returns)

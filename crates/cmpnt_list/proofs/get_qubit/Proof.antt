@@ -12,9 +12,6 @@ use Rattle.cmpnt_list.proofs.Tests.{both-small}
 use Rattle.cmpnt_list.proofs.get_qubit.Statement.{statement}
 use Rattle.cmpnt_list.proofs.get_qubit.Tie as tie
 
-row-fault-requires : tie.Need-row-fault-requires
-row-fault-requires c κs = search needs
-
 returns : tie.Need-returns
 unfolding getQubit
 returns c =
@@ -37,4 +34,4 @@ returns-2 c =
     ∙ passing (λ (k : ℕ). gotOr k (getD (rowsOf (a .n) M (a .row .0) .ps) (a .qubit .0) I)) (c .before .before .row-fault .ensures .0) (c .before .if1 .left)
 
 pub get-qubit-spec : {M : Type 1} → statement M
-get-qubit-spec = tie.close (tie.spec row-fault-requires returns read-qubit-requires returns-2)
+get-qubit-spec = tie.close (tie.spec (λ c κs. search needs) returns read-qubit-requires returns-2)

@@ -13,18 +13,6 @@ use Rattle.cmpnt_list.specs.declared.Phase.the-variants as phase
 use Rattle.cmpnt_list.proofs.imul_state.Statement.{statement}
 use Rattle.cmpnt_list.proofs.imul_state.Tie as tie
 
-row-fault-requires : tie.Need-row-fault-requires
-row-fault-requires c κs = search needs
-
-state-fault-requires : tie.Need-state-fault-requires
-state-fault-requires c κs = search needs
-
-smaller-requires : tie.Need-smaller-requires
-smaller-requires c κs = search needs
-
-same-length : tie.Need-same-length
-same-length c = search needs
-
 returns : tie.Need-returns
 returns c =
     let s = c .before .before .before .before .before .before .before .before .before .before in
@@ -49,9 +37,6 @@ act-on-requires c κs =
     let k = f .ensures .1 (p .0) in
     (k .ready, (leb-false (length (a .phases .now)) (a .row .0) (k .small), sym (t .ensures) ∙ p .1))
 
-same-length-2 : tie.Need-same-length-2
-same-length-2 c = search needs
-
 returns-2 : tie.Need-returns-2
 returns-2 c =
     let s = c .before .before .before .before .before .before .before .before .before .before .before .before .before .before in
@@ -73,11 +58,11 @@ pub imul-state-spec : {M : Type 1} → statement M
 imul-state-spec =
     tie.close
     (tie.spec
-    row-fault-requires
-    state-fault-requires
-    smaller-requires
-    same-length
+    (λ c κs. search needs)
+    (λ c κs. search needs)
+    (λ c κs. search needs)
+    (λ c. search needs)
     returns
     act-on-requires
-    same-length-2
+    (λ c. search needs)
     returns-2)

@@ -11,30 +11,6 @@ use Rattle.cmpnt_list.proofs.Filling.{marked}
 use Rattle.cmpnt_list.proofs.mark.Statement.{statement}
 use Rattle.cmpnt_list.proofs.mark.Tie as tie
 
-row-span-requires : tie.Need-row-span-requires
-row-span-requires c κs = search needs
-
-add-t : tie.Need-add-t
-add-t c = search needs
-
-mul-out : tie.Need-mul-out
-mul-out c = search needs
-
-slice-read-out : tie.Need-slice-read-out
-slice-read-out c = search needs
-
-shl-out : tie.Need-shl-out
-shl-out c = search needs
-
-mul-out-2 : tie.Need-mul-out-2
-mul-out-2 c = search needs
-
-slice-write-out : tie.Need-slice-write-out
-slice-write-out c = search needs
-
-same-length : tie.Need-same-length
-same-length c = search needs
-
 returns : tie.Need-returns
 returns c =
     let s = c .before .before .before .before in
@@ -52,12 +28,12 @@ pub mark-spec : {M : Type 1} → statement M
 mark-spec =
     tie.close
     (tie.spec
-    row-span-requires
-    add-t
-    mul-out
-    slice-read-out
-    shl-out
-    mul-out-2
-    slice-write-out
-    same-length
+    (λ c κs. search needs)
+    (λ c. search needs)
+    (λ c. search needs)
+    (λ c. search needs)
+    (λ c. search needs)
+    (λ c. search needs)
+    (λ c. search needs)
+    (λ c. search needs)
     returns)

@@ -25,17 +25,8 @@ mark-pair-requires c κs =
     let s = i .before .before .before .before .before .before in
     (s .pre .0, ((s .pre .1 .0, i .loop-test .taken), i .before .loop .inv .1))
 
-add-j : tie.Need-add-j Inv-loop μ-loop
-add-j c = search needs
-
-loop-less : tie.Need-loop-less Inv-loop μ-loop
-loop-less c = search needs
-
 loop-again : tie.Need-loop-again Inv-loop μ-loop
 loop-again c = (omega arith, c .before .before .mark-pair .ensures)
-
-same-length : tie.Need-same-length Inv-loop μ-loop
-same-length c = search needs
 
 returns : tie.Need-returns Inv-loop μ-loop
 returns c =
@@ -52,8 +43,8 @@ mark-line-spec =
     μ-loop
     loop-holds
     mark-pair-requires
-    add-j
-    loop-less
+    (λ c. search needs)
+    (λ c. search needs)
     loop-again
-    same-length
+    (λ c. search needs)
     returns)

@@ -8,18 +8,6 @@ use Rattle.cmpnt_list.proofs.Filling.{pair-yes, pair-no}
 use Rattle.cmpnt_list.proofs.mark_pair.Statement.{statement}
 use Rattle.cmpnt_list.proofs.mark_pair.Tie as tie
 
-commute-rows-requires : tie.Need-commute-rows-requires
-commute-rows-requires c κs = search needs
-
-mark-requires : tie.Need-mark-requires
-mark-requires c κs = search needs
-
-mark-requires-2 : tie.Need-mark-requires-2
-mark-requires-2 c κs = search needs
-
-same-length : tie.Need-same-length
-same-length c = search needs
-
 returns : tie.Need-returns
 returns c =
     let s = c .before .before .before .before .before .before .before .before .before .before .before .before .before .before in
@@ -39,4 +27,4 @@ returns-2 c =
 pub mark-pair-spec : {M : Type 1} → statement M
 mark-pair-spec =
     tie.close
-    (tie.spec commute-rows-requires mark-requires mark-requires-2 same-length returns returns-2)
+    (tie.spec (λ c κs. search needs) (λ c κs. search needs) (λ c κs. search needs) (λ c. search needs) returns returns-2)

@@ -8,15 +8,6 @@ use Rattle.cmpnt_list.proofs.Tests.{matrix-asked}
 use Rattle.cmpnt_list.proofs.matrix_fault.Statement.{statement}
 use Rattle.cmpnt_list.proofs.matrix_fault.Tie as tie
 
-set-fault-requires : tie.Need-set-fault-requires
-set-fault-requires c κs = search needs
-
-square-fault-requires : tie.Need-square-fault-requires
-square-fault-requires c κs = search needs
-
-smaller-requires : tie.Need-smaller-requires
-smaller-requires c κs = search needs
-
 returns : tie.Need-returns
 returns c =
     let p = c .before in
@@ -29,4 +20,4 @@ returns c =
 
 pub matrix-fault-spec : {M : Type 1} → statement M
 matrix-fault-spec =
-    tie.close (tie.spec set-fault-requires square-fault-requires smaller-requires returns)
+    tie.close (tie.spec (λ c κs. search needs) (λ c κs. search needs) (λ c κs. search needs) returns)

@@ -7,9 +7,6 @@ use borrow.Author.Needs.{needs}
 use Rattle.cmpnt_list.proofs.matrix_size.Statement.{statement}
 use Rattle.cmpnt_list.proofs.matrix_size.Tie as tie
 
-words-requires : tie.Need-words-requires
-words-requires c κs = search needs
-
 mul-result : tie.Need-mul-result
 mul-result c =
     let w : c .words .result ≤ 4 = omega arith in
@@ -19,4 +16,4 @@ returns : tie.Need-returns
 returns c = ap (λ (k : ℕ). c .before .args .m * k) (c .words .ensures)
 
 pub matrix-size-spec : {M : Type 1} → statement M
-matrix-size-spec = tie.close (tie.spec words-requires mul-result returns)
+matrix-size-spec = tie.close (tie.spec (λ c κs. search needs) mul-result returns)

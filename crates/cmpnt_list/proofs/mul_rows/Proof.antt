@@ -38,15 +38,6 @@ mul-part-requires c κs =
     subst (λ (k : ℕ). c .before .before .row-span .result .1 ≤ k) (ap (λ (k : ℕ). k * wordsOf (s .args .n)) (w .loop .inv .1) ∙ sym (s .pre .0 .left .valid .x-long)) (at .inside) in
     ((le, inside), all-long (s .args .n) (s .pre .0) (s .pre .1 .same) (w .loop .inv .2))
 
-slice-write-op : tie.Need-slice-write-op Inv-loop μ-loop
-slice-write-op c = search needs
-
-add-r : tie.Need-add-r Inv-loop μ-loop
-add-r c = search needs
-
-loop-less : tie.Need-loop-less Inv-loop μ-loop
-loop-less c = search needs
-
 loop-again : tie.Need-loop-again Inv-loop μ-loop
 loop-again c =
     let w = c .before .before .before .before .before .before .before .before .before in
@@ -56,15 +47,6 @@ loop-again c =
       w .loop .inv .1,
       holds-more (s .args .n) (s .pre .0) h (subst (λ (k : ℕ). w .loop .r < k) (sym (s .pre .1 .same)) h) (c .before .before .before .before .before .before .before .row-span .ensures) (w .loop .inv .2) (c .before .before .before .before .mul-part .ensures),
     )
-
-same-length : tie.Need-same-length Inv-loop μ-loop
-same-length c = search needs
-
-same-length-2 : tie.Need-same-length-2 Inv-loop μ-loop
-same-length-2 c = search needs
-
-same-length-3 : tie.Need-same-length-3 Inv-loop μ-loop
-same-length-3 c = search needs
 
 returns : tie.Need-returns Inv-loop μ-loop
 returns c =
@@ -84,11 +66,11 @@ mul-rows-spec =
     loop-holds
     row-span-requires
     mul-part-requires
-    slice-write-op
-    add-r
-    loop-less
+    (λ c. search needs)
+    (λ c. search needs)
+    (λ c. search needs)
     loop-again
-    same-length
-    same-length-2
-    same-length-3
+    (λ c. search needs)
+    (λ c. search needs)
+    (λ c. search needs)
     returns)

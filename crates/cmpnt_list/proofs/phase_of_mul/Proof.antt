@@ -12,9 +12,6 @@ use Rattle.cmpnt_list.proofs.Tests.{both-small}
 use Rattle.cmpnt_list.proofs.phase_of_mul.Statement.{statement}
 use Rattle.cmpnt_list.proofs.phase_of_mul.Tie as tie
 
-row-fault-requires : tie.Need-row-fault-requires
-row-fault-requires c κs = search needs
-
 returns : tie.Need-returns
 unfolding phaseOfMul
 returns c =
@@ -38,4 +35,4 @@ returns-2 c =
     ∙ passing (λ (k : ℕ). phaseOr k (phaseOf (a .n) (rowsOf (a .n) M (a .a .0)) (rowsOf (a .n) M (a .b .0)))) (c .before .before .row-fault .ensures .0) (c .before .if1 .left)
 
 pub phase-of-mul-spec : {M : Type 1} → statement M
-phase-of-mul-spec = tie.close (tie.spec row-fault-requires returns phase-rows-requires returns-2)
+phase-of-mul-spec = tie.close (tie.spec (λ c κs. search needs) returns phase-rows-requires returns-2)

@@ -11,63 +11,6 @@ use Rattle.cmpnt_list.proofs.Views.{words-at}
 use Rattle.cmpnt_list.proofs.phase_rows.Statement.{statement}
 use Rattle.cmpnt_list.proofs.phase_rows.Tie as tie
 
-row-span-requires : tie.Need-row-span-requires
-row-span-requires c κs = search needs
-
-row-span-requires-2 : tie.Need-row-span-requires-2
-row-span-requires-2 c κs = search needs
-
-mul-mul-op-op-phase : tie.Need-mul-mul-op-op-phase
-mul-mul-op-op-phase c = search needs
-
-sub-mul-op-op-phase : tie.Need-sub-mul-op-op-phase
-sub-mul-op-op-phase c = search needs
-
-part-mul-op-op-phase-start : tie.Need-part-mul-op-op-phase-start
-part-mul-op-op-phase-start c = search needs
-
-part-mul-op-op-phase-end : tie.Need-part-mul-op-op-phase-end
-part-mul-op-op-phase-end c = search needs
-
-mul-mul-op-op-phase-2 : tie.Need-mul-mul-op-op-phase-2
-mul-mul-op-op-phase-2 c = search needs
-
-sub-mul-op-op-phase-2 : tie.Need-sub-mul-op-op-phase-2
-sub-mul-op-op-phase-2 c = search needs
-
-part-mul-op-op-phase-start-2 : tie.Need-part-mul-op-op-phase-start-2
-part-mul-op-op-phase-start-2 c = search needs
-
-part-mul-op-op-phase-end-2 : tie.Need-part-mul-op-op-phase-end-2
-part-mul-op-op-phase-end-2 c = search needs
-
-mul-mul-op-op-phase-3 : tie.Need-mul-mul-op-op-phase-3
-mul-mul-op-op-phase-3 c = search needs
-
-sub-mul-op-op-phase-3 : tie.Need-sub-mul-op-op-phase-3
-sub-mul-op-op-phase-3 c = search needs
-
-part-mul-op-op-phase-start-3 : tie.Need-part-mul-op-op-phase-start-3
-part-mul-op-op-phase-start-3 c = search needs
-
-part-mul-op-op-phase-end-3 : tie.Need-part-mul-op-op-phase-end-3
-part-mul-op-op-phase-end-3 c = search needs
-
-mul-mul-op-op-phase-4 : tie.Need-mul-mul-op-op-phase-4
-mul-mul-op-op-phase-4 c = search needs
-
-sub-mul-op-op-phase-4 : tie.Need-sub-mul-op-op-phase-4
-sub-mul-op-op-phase-4 c = search needs
-
-part-mul-op-op-phase-start-4 : tie.Need-part-mul-op-op-phase-start-4
-part-mul-op-op-phase-start-4 c = search needs
-
-part-mul-op-op-phase-end-4 : tie.Need-part-mul-op-op-phase-end-4
-part-mul-op-op-phase-end-4 c = search needs
-
-mul-op-op-phase-requires : tie.Need-mul-op-op-phase-requires
-mul-op-op-phase-requires c κs = search needs
-
 returns : tie.Need-returns
 returns c =
     let s = c .before .before .before .before .before .before .before .before .before .before in
@@ -81,23 +24,23 @@ pub phase-rows-spec : {M : Type 1} → statement M
 phase-rows-spec =
     tie.close
     (tie.spec
-    row-span-requires
-    row-span-requires-2
-    mul-mul-op-op-phase
-    sub-mul-op-op-phase
-    part-mul-op-op-phase-start
-    part-mul-op-op-phase-end
-    mul-mul-op-op-phase-2
-    sub-mul-op-op-phase-2
-    part-mul-op-op-phase-start-2
-    part-mul-op-op-phase-end-2
-    mul-mul-op-op-phase-3
-    sub-mul-op-op-phase-3
-    part-mul-op-op-phase-start-3
-    part-mul-op-op-phase-end-3
-    mul-mul-op-op-phase-4
-    sub-mul-op-op-phase-4
-    part-mul-op-op-phase-start-4
-    part-mul-op-op-phase-end-4
-    mul-op-op-phase-requires
+    (λ c κs. search needs)
+    (λ c κs. search needs)
+    (λ c. search needs)
+    (λ c. search needs)
+    (λ c. search needs)
+    (λ c. search needs)
+    (λ c. search needs)
+    (λ c. search needs)
+    (λ c. search needs)
+    (λ c. search needs)
+    (λ c. search needs)
+    (λ c. search needs)
+    (λ c. search needs)
+    (λ c. search needs)
+    (λ c. search needs)
+    (λ c. search needs)
+    (λ c. search needs)
+    (λ c. search needs)
+    (λ c κs. search needs)
     returns)

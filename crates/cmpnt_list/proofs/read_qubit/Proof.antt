@@ -12,36 +12,6 @@ use Rattle.cmpnt_list.proofs.Views.{words-at}
 use Rattle.cmpnt_list.proofs.read_qubit.Statement.{statement}
 use Rattle.cmpnt_list.proofs.read_qubit.Tie as tie
 
-row-span-requires : tie.Need-row-span-requires
-row-span-requires c κs = search needs
-
-mul-get-qubit : tie.Need-mul-get-qubit
-mul-get-qubit c = search needs
-
-sub-get-qubit : tie.Need-sub-get-qubit
-sub-get-qubit c = search needs
-
-part-get-qubit-start : tie.Need-part-get-qubit-start
-part-get-qubit-start c = search needs
-
-part-get-qubit-end : tie.Need-part-get-qubit-end
-part-get-qubit-end c = search needs
-
-mul-get-qubit-2 : tie.Need-mul-get-qubit-2
-mul-get-qubit-2 c = search needs
-
-sub-get-qubit-2 : tie.Need-sub-get-qubit-2
-sub-get-qubit-2 c = search needs
-
-part-get-qubit-start-2 : tie.Need-part-get-qubit-start-2
-part-get-qubit-start-2 c = search needs
-
-part-get-qubit-end-2 : tie.Need-part-get-qubit-end-2
-part-get-qubit-end-2 c = search needs
-
-get-qubit-requires : tie.Need-get-qubit-requires
-get-qubit-requires c κs = search needs
-
 returns : tie.Need-returns
 returns c =
     let s = c .before .before .before .before .before .before .before in
@@ -55,14 +25,14 @@ pub read-qubit-spec : {M : Type 1} → statement M
 read-qubit-spec =
     tie.close
     (tie.spec
-    row-span-requires
-    mul-get-qubit
-    sub-get-qubit
-    part-get-qubit-start
-    part-get-qubit-end
-    mul-get-qubit-2
-    sub-get-qubit-2
-    part-get-qubit-start-2
-    part-get-qubit-end-2
-    get-qubit-requires
+    (λ c κs. search needs)
+    (λ c. search needs)
+    (λ c. search needs)
+    (λ c. search needs)
+    (λ c. search needs)
+    (λ c. search needs)
+    (λ c. search needs)
+    (λ c. search needs)
+    (λ c. search needs)
+    (λ c κs. search needs)
     returns)

@@ -5,15 +5,6 @@ use Rattle.cmpnt_list.proofs.Tests.{read-fault, read-asked}
 use Rattle.cmpnt_list.proofs.row_fault.Statement.{statement}
 use Rattle.cmpnt_list.proofs.row_fault.Tie as tie
 
-set-fault-requires : tie.Need-set-fault-requires
-set-fault-requires c κs = search needs
-
-pick-requires : tie.Need-pick-requires
-pick-requires c κs = search needs
-
-smaller-requires : tie.Need-smaller-requires
-smaller-requires c κs = search needs
-
 returns : tie.Need-returns
 returns c =
     let p = c .before in
@@ -25,4 +16,4 @@ returns c =
     )
 
 pub row-fault-spec : {M : Type 1} → statement M
-row-fault-spec = tie.close (tie.spec set-fault-requires pick-requires smaller-requires returns)
+row-fault-spec = tie.close (tie.spec (λ c κs. search needs) (λ c κs. search needs) (λ c κs. search needs) returns)

@@ -5,9 +5,6 @@ use Rattle.cmpnt_list.proofs.Views.{row-at, row-small}
 use Rattle.cmpnt_list.proofs.row_span.Statement.{statement}
 use Rattle.cmpnt_list.proofs.row_span.Tie as tie
 
-words-requires : tie.Need-words-requires
-words-requires c κs = search needs
-
 mul-a : tie.Need-mul-a
 mul-a c =
     let s = c .before in
@@ -22,4 +19,4 @@ returns : tie.Need-returns
 returns c = row-at (c .before .args .r) (c .before .args .n) (c .before .args .m) (c .before .pre .0) (c .words .ensures)
 
 pub row-span-spec : {M : Type 1} → statement M
-row-span-spec = tie.close (tie.spec words-requires mul-a add-t6 returns)
+row-span-spec = tie.close (tie.spec (λ c κs. search needs) mul-a add-t6 returns)

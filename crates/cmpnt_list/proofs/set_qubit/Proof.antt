@@ -12,15 +12,6 @@ use Rattle.cmpnt_list.proofs.Tests.{both-small}
 use Rattle.cmpnt_list.proofs.set_qubit.Statement.{statement}
 use Rattle.cmpnt_list.proofs.set_qubit.Tie as tie
 
-row-fault-requires : tie.Need-row-fault-requires
-row-fault-requires c κs = search needs
-
-same-length : tie.Need-same-length
-same-length c = search needs
-
-same-length-2 : tie.Need-same-length-2
-same-length-2 c = search needs
-
 returns : tie.Need-returns
 returns c =
     let a = c .before .before .before .before .before .before .before .before .before .args in
@@ -35,12 +26,6 @@ write-qubit-requires c κs =
     let k = c .before .before .before .row-fault .ensures .1 (c .before .before .if1 .left) in
     (k .ready, both-small (length (a .phases .now)) (a .row .0) (a .n) (a .qubit .0) (k .small))
 
-same-length-3 : tie.Need-same-length-3
-same-length-3 c = search needs
-
-same-length-4 : tie.Need-same-length-4
-same-length-4 c = search needs
-
 returns-2 : tie.Need-returns-2
 returns-2 c =
     let a = c .before .before .before .before .before .before .before .before .before .before .before .before .before .before .before .before .args in
@@ -54,11 +39,11 @@ pub set-qubit-spec : {M : Type 1} → statement M
 set-qubit-spec =
     tie.close
     (tie.spec
-    row-fault-requires
-    same-length
-    same-length-2
+    (λ c κs. search needs)
+    (λ c. search needs)
+    (λ c. search needs)
     returns
     write-qubit-requires
-    same-length-3
-    same-length-4
+    (λ c. search needs)
+    (λ c. search needs)
     returns-2)

@@ -8,15 +8,6 @@ use Rattle.cmpnt_list.proofs.Tests.{third-ready}
 use Rattle.cmpnt_list.proofs.third_fault.Statement.{statement}
 use Rattle.cmpnt_list.proofs.third_fault.Tie as tie
 
-pick-requires : tie.Need-pick-requires
-pick-requires c κs = search needs
-
-out-fault-requires : tie.Need-out-fault-requires
-out-fault-requires c κs = search needs
-
-smaller-requires : tie.Need-smaller-requires
-smaller-requires c κs = search needs
-
 returns : tie.Need-returns
 returns c =
     let o = c .before in
@@ -28,4 +19,4 @@ returns c =
     )
 
 pub third-fault-spec : {M : Type 1} → statement M
-third-fault-spec = tie.close (tie.spec pick-requires out-fault-requires smaller-requires returns)
+third-fault-spec = tie.close (tie.spec (λ c κs. search needs) (λ c κs. search needs) (λ c κs. search needs) returns)

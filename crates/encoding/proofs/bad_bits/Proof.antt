@@ -30,30 +30,6 @@ loop-holds : tie.Need-loop-holds Inv-loop μ-loop
 unfolding someBelow
 loop-holds c = (search needs, refl)
 
-start-requires : tie.Need-start-requires Inv-loop μ-loop
-start-requires c κs = search needs
-
-sub-t : tie.Need-sub-t Inv-loop μ-loop
-sub-t c = search needs
-
-add-t : tie.Need-add-t Inv-loop μ-loop
-add-t c = search needs
-
-mul-above : tie.Need-mul-above Inv-loop μ-loop
-mul-above c = search needs
-
-shared-slice-read-above : tie.Need-shared-slice-read-above Inv-loop μ-loop
-shared-slice-read-above c = search needs
-
-mul-above-2 : tie.Need-mul-above-2 Inv-loop μ-loop
-mul-above-2 c = search needs
-
-shared-slice-read-above-2 : tie.Need-shared-slice-read-above-2 Inv-loop μ-loop
-shared-slice-read-above-2 c = search needs
-
-above-requires : tie.Need-above-requires Inv-loop μ-loop
-above-requires c κs = search needs
-
 returns-2 : tie.Need-returns-2 Inv-loop μ-loop
 unfolding badBits
 returns-2 c =
@@ -64,12 +40,6 @@ returns-2 c =
     sym (any-hit (high (a .n) (a .w) (a .x .now) (a .z .now)) (a .m) (w .loop .r) (i .loop-test .taken)
     (sym (row-last (a .n) (a .m) (a .w) (a .x .now) (a .z .now) (s .pre .0) (s .pre .1) (s .pre .2) (w .loop .r) _ (w .before .if1 .left) (i .loop-test .taken) (omega arith))
     ∙ sym (c .before .above .ensures) ∙ c .if2 .taken))
-
-add-r : tie.Need-add-r Inv-loop μ-loop
-add-r c = search needs
-
-loop-less : tie.Need-loop-less Inv-loop μ-loop
-loop-less c = search needs
 
 loop-again : tie.Need-loop-again Inv-loop μ-loop
 loop-again c =
@@ -99,16 +69,16 @@ bad-bits-spec =
     μ-loop
     returns
     loop-holds
-    start-requires
-    sub-t
-    add-t
-    mul-above
-    shared-slice-read-above
-    mul-above-2
-    shared-slice-read-above-2
-    above-requires
+    (λ c κs. search needs)
+    (λ c. search needs)
+    (λ c. search needs)
+    (λ c. search needs)
+    (λ c. search needs)
+    (λ c. search needs)
+    (λ c. search needs)
+    (λ c κs. search needs)
     returns-2
-    add-r
-    loop-less
+    (λ c. search needs)
+    (λ c. search needs)
     loop-again
     returns-3)

@@ -9,11 +9,8 @@ use Rattle.encoding.proofs.bad_lengths.Reads as reads
 use Rattle.encoding.proofs.bad_lengths.Lts as lts
 use Rattle.encoding.proofs.product.Reads as product-reads
 
-product-requires : tie.Need-product-requires
-product-requires c κs = search needs
-
 returns : tie.Need-returns
 returns c = rw (← (c .product .ensures)) (refl)
 
 pub bad-lengths-spec : {M : Type 1} → statement M
-bad-lengths-spec = tie.close (tie.spec product-requires returns)
+bad-lengths-spec = tie.close (tie.spec (λ c κs. search needs) returns)

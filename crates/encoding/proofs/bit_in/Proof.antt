@@ -11,15 +11,6 @@ use Rattle.encoding.proofs.bit_in.Reads as reads
 use Rattle.encoding.proofs.bit_in.Lts as lts
 use Rattle.encoding.proofs.bit_of.Reads as bit-of-reads
 
-mul-bit-of : tie.Need-mul-bit-of
-mul-bit-of c = search needs
-
-shared-slice-read-bit-of : tie.Need-shared-slice-read-bit-of
-shared-slice-read-bit-of c = search needs
-
-bit-of-requires : tie.Need-bit-of-requires
-bit-of-requires c κs = search needs
-
 returns : tie.Need-returns
 unfolding bitAt
 returns c = c .bit-of .ensures
@@ -29,4 +20,4 @@ returns-2 c = let a = c .before .before .args in sym (no-bit (a .x .now) (a .q /
 
 pub bit-in-spec : {M : Type 1} → statement M
 bit-in-spec =
-    tie.close (tie.spec mul-bit-of shared-slice-read-bit-of bit-of-requires returns returns-2)
+    tie.close (tie.spec (λ c. search needs) (λ c. search needs) (λ c κs. search needs) returns returns-2)

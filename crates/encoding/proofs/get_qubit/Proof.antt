@@ -14,27 +14,6 @@ use Rattle.encoding.proofs.get_qubit.Lts as lts
 use Rattle.encoding.proofs.bit_of.Reads as bit-of-reads
 use Rattle.encoding.proofs.pauli_of.Reads as pauli-of-reads
 
-mul-bit-of : tie.Need-mul-bit-of
-mul-bit-of c = search needs
-
-shared-slice-read-bit-of : tie.Need-shared-slice-read-bit-of
-shared-slice-read-bit-of c = search needs
-
-bit-of-requires : tie.Need-bit-of-requires
-bit-of-requires c κs = search needs
-
-mul-bit-of-2 : tie.Need-mul-bit-of-2
-mul-bit-of-2 c = search needs
-
-shared-slice-read-bit-of-2 : tie.Need-shared-slice-read-bit-of-2
-shared-slice-read-bit-of-2 c = search needs
-
-bit-of-requires-2 : tie.Need-bit-of-requires-2
-bit-of-requires-2 c κs = search needs
-
-pauli-of-requires : tie.Need-pauli-of-requires
-pauli-of-requires c κs = search needs
-
 returns : tie.Need-returns
 unfolding bitAt
 returns c =
@@ -57,13 +36,13 @@ pub get-qubit-spec : {M : Type 1} → statement M
 get-qubit-spec =
     tie.close
     (tie.spec
-    mul-bit-of
-    shared-slice-read-bit-of
-    bit-of-requires
-    mul-bit-of-2
-    shared-slice-read-bit-of-2
-    bit-of-requires-2
-    pauli-of-requires
+    (λ c. search needs)
+    (λ c. search needs)
+    (λ c κs. search needs)
+    (λ c. search needs)
+    (λ c. search needs)
+    (λ c κs. search needs)
+    (λ c κs. search needs)
     returns
     returns-2
     returns-3)

@@ -23,15 +23,6 @@ returns-2 c =
     let a = c .before .before .before .before .before .args in
     out-2 (a .n) (a .m) (mem (a .x .now) (a .z .now) (a .p .now)) (c .before .if1 .left) (c .if2 .taken)
 
-words-requires : tie.Need-words-requires
-words-requires c κs = search needs
-
-bad-lengths-requires : tie.Need-bad-lengths-requires
-bad-lengths-requires c κs = search needs
-
-pick-requires : tie.Need-pick-requires
-pick-requires c κs = search needs
-
 returns-3 : tie.Need-returns-3
 returns-3 c =
     let b = c .before in
@@ -43,4 +34,4 @@ returns-3 c =
 pub out-fault-spec : {M : Type 1} → statement M
 out-fault-spec =
     tie.close
-    (tie.spec returns returns-2 words-requires bad-lengths-requires pick-requires returns-3)
+    (tie.spec returns returns-2 (λ c κs. search needs) (λ c κs. search needs) (λ c κs. search needs) returns-3)

@@ -26,12 +26,6 @@ returns-2 c =
     let a = c .before .before .before .before .before .args in
     (stop-2 (a .n) (mem (a .x .now) (a .z .now) (a .p .now)) (c .before .if1 .left) (c .if2 .taken), no-claim refl)
 
-words-requires : tie.Need-words-requires
-words-requires c κs = search needs
-
-bad-lengths-requires : tie.Need-bad-lengths-requires
-bad-lengths-requires c κs = search needs
-
 returns-3 : tie.Need-returns-3
 returns-3 c =
     let b = c .before in
@@ -49,15 +43,6 @@ bad-bits-requires c κs =
     let a = w .before .before .before .before .before .before .args in
     let l = lengths-fit (length (a .p .now)) (w .words .result) (length (a .x .now)) (length (a .z .now)) (sym (b .bad-lengths .ensures) ∙ c .if3 .left) in
     (w .words .ensures, l .0, l .1)
-
-bad-phases-requires : tie.Need-bad-phases-requires
-bad-phases-requires c κs = search needs
-
-pick-requires : tie.Need-pick-requires
-pick-requires c κs = search needs
-
-pick-requires-2 : tie.Need-pick-requires-2
-pick-requires-2 c κs = search needs
 
 returns-4 : tie.Need-returns-4
 returns-4 c =
@@ -81,11 +66,11 @@ set-fault-spec =
     (tie.spec
     returns
     returns-2
-    words-requires
-    bad-lengths-requires
+    (λ c κs. search needs)
+    (λ c κs. search needs)
     returns-3
     bad-bits-requires
-    bad-phases-requires
-    pick-requires
-    pick-requires-2
+    (λ c κs. search needs)
+    (λ c κs. search needs)
+    (λ c κs. search needs)
     returns-4)

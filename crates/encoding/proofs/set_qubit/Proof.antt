@@ -14,48 +14,6 @@ use Rattle.encoding.proofs.has_x.Reads as has-x-reads
 use Rattle.encoding.proofs.has_z.Reads as has-z-reads
 use Rattle.encoding.proofs.with_bit.Reads as with-bit-reads
 
-mul-with-bit : tie.Need-mul-with-bit
-mul-with-bit c = search needs
-
-slice-read-with-bit : tie.Need-slice-read-with-bit
-slice-read-with-bit c = search needs
-
-has-x-requires : tie.Need-has-x-requires
-has-x-requires c κs = search needs
-
-with-bit-requires : tie.Need-with-bit-requires
-with-bit-requires c κs = search needs
-
-mul-x : tie.Need-mul-x
-mul-x c = search needs
-
-slice-write-x : tie.Need-slice-write-x
-slice-write-x c = search needs
-
-mul-with-bit-2 : tie.Need-mul-with-bit-2
-mul-with-bit-2 c = search needs
-
-slice-read-with-bit-2 : tie.Need-slice-read-with-bit-2
-slice-read-with-bit-2 c = search needs
-
-has-z-requires : tie.Need-has-z-requires
-has-z-requires c κs = search needs
-
-with-bit-requires-2 : tie.Need-with-bit-requires-2
-with-bit-requires-2 c κs = search needs
-
-mul-z : tie.Need-mul-z
-mul-z c = search needs
-
-slice-write-z : tie.Need-slice-write-z
-slice-write-z c = search needs
-
-same-length : tie.Need-same-length
-same-length c = search needs
-
-same-length-2 : tie.Need-same-length-2
-same-length-2 c = search needs
-
 returns : tie.Need-returns
 returns c =
     let t = c .before .before .before .before .before .before in
@@ -78,20 +36,20 @@ pub set-qubit-spec : {M : Type 1} → statement M
 set-qubit-spec =
     tie.close
     (tie.spec
-    mul-with-bit
-    slice-read-with-bit
-    has-x-requires
-    with-bit-requires
-    mul-x
-    slice-write-x
-    mul-with-bit-2
-    slice-read-with-bit-2
-    has-z-requires
-    with-bit-requires-2
-    mul-z
-    slice-write-z
-    same-length
-    same-length-2
+    (λ c. search needs)
+    (λ c. search needs)
+    (λ c κs. search needs)
+    (λ c κs. search needs)
+    (λ c. search needs)
+    (λ c. search needs)
+    (λ c. search needs)
+    (λ c. search needs)
+    (λ c κs. search needs)
+    (λ c κs. search needs)
+    (λ c. search needs)
+    (λ c. search needs)
+    (λ c. search needs)
+    (λ c. search needs)
     returns
     returns-2
     returns-3)

@@ -17,9 +17,6 @@ returns c =
     let a = c .before .before .args in
     state-1 (a .n) (a .s .now) (c .if1 .taken)
 
-words-requires : tie.Need-words-requires
-words-requires c κs = search needs
-
 returns-2 : tie.Need-returns-2
 returns-2 c =
     let w = c .before in
@@ -32,21 +29,6 @@ returns-3 c =
     let w = e2 .before in
     let a = w .before .before .before .args in
     state-none (a .n) (a .s .now) (w .words .result) (w .before .if1 .left) (w .words .ensures) (e2 .if2 .left) (c .if3 .taken)
-
-sub-t : tie.Need-sub-t
-sub-t c = search needs
-
-mul-t : tie.Need-mul-t
-mul-t c = search needs
-
-shared-slice-read-t : tie.Need-shared-slice-read-t
-shared-slice-read-t c = search needs
-
-above-requires : tie.Need-above-requires
-above-requires c κs = search needs
-
-pick-requires : tie.Need-pick-requires
-pick-requires c κs = search needs
 
 returns-4 : tie.Need-returns-4
 returns-4 c =
@@ -62,12 +44,12 @@ state-fault-spec =
     tie.close
     (tie.spec
     returns
-    words-requires
+    (λ c κs. search needs)
     returns-2
     returns-3
-    sub-t
-    mul-t
-    shared-slice-read-t
-    above-requires
-    pick-requires
+    (λ c. search needs)
+    (λ c. search needs)
+    (λ c. search needs)
+    (λ c κs. search needs)
+    (λ c κs. search needs)
     returns-4)

@@ -22,23 +22,11 @@ loop-holds c =
     let s = c .before .before in
     rw (c .lower .ensures) (run-none (s .args .x .now) (s .args .t) (s .pre))
 
-mul-if1 : tie.Need-mul-if1 Inv-loop μ-loop
-mul-if1 c = search needs
-
-shared-slice-read-if1 : tie.Need-shared-slice-read-if1 Inv-loop μ-loop
-shared-slice-read-if1 c = search needs
-
 returns : tie.Need-returns Inv-loop μ-loop
 returns c =
     let w = c .before .before .before in
     let s = w .before .before .before in
     ap₂ Block (w .before .lower .ensures) (run-stop (s .args .x .now) (s .args .t) (s .pre) (w .loop .inv) (c .before .before .loop-test .taken) (c .if1 .taken))
-
-add-last : tie.Need-add-last Inv-loop μ-loop
-add-last c = search needs
-
-loop-less : tie.Need-loop-less Inv-loop μ-loop
-loop-less c = search needs
 
 loop-again : tie.Need-loop-again Inv-loop μ-loop
 loop-again c =
@@ -60,10 +48,10 @@ block-spec =
     μ-loop
     lower-requires
     loop-holds
-    mul-if1
-    shared-slice-read-if1
+    (λ c. search needs)
+    (λ c. search needs)
     returns
-    add-last
-    loop-less
+    (λ c. search needs)
+    (λ c. search needs)
     loop-again
     returns-2)

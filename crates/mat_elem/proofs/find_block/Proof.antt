@@ -5,9 +5,6 @@ use Rattle.mat_elem.proofs.Faults.{shape-sound, words-sound, found-shap
 use Rattle.mat_elem.proofs.find_block.Statement.{statement}
 use Rattle.mat_elem.proofs.find_block.Tie as tie
 
-shape-fault-requires : tie.Need-shape-fault-requires
-shape-fault-requires c κs = search needs
-
 returns : tie.Need-returns
 returns c =
     let f = c .before in
@@ -44,4 +41,4 @@ returns-3 c =
 pub find-block-spec : {M : Type 1} → statement M
 find-block-spec =
     tie.close
-    (tie.spec shape-fault-requires returns word-fault-requires returns-2 block-requires returns-3)
+    (tie.spec (λ c κs. search needs) returns word-fault-requires returns-2 block-requires returns-3)

@@ -6,9 +6,6 @@ use borrow.Author.Needs.{needs}
 use Rattle.mat_elem.proofs.top_word.Statement.{statement}
 use Rattle.mat_elem.proofs.top_word.Tie as tie
 
-shl-result : tie.Need-shl-result
-shl-result c = search needs
-
 sub-result : tie.Need-sub-result
 sub-result c =
     let h : 2 ^ c .before .args .n < 2 ^ 64 = pow-lt (c .if1 .taken) in
@@ -25,4 +22,4 @@ returns-2 c =
     ap (λ (k : ℕ). 2 ^ k) e
 
 pub top-word-spec : {M : Type 1} → statement M
-top-word-spec = tie.close (tie.spec shl-result sub-result returns returns-2)
+top-word-spec = tie.close (tie.spec (λ c. search needs) sub-result returns returns-2)

@@ -4,12 +4,6 @@ use Rattle.mat_elem.proofs.Bits.{bits-seen}
 use Rattle.mat_elem.proofs.word_fault.Statement.{statement}
 use Rattle.mat_elem.proofs.word_fault.Tie as tie
 
-top-word-requires : tie.Need-top-word-requires
-top-word-requires c κs = search needs
-
-look-requires : tie.Need-look-requires
-look-requires c κs = search needs
-
 returns : tie.Need-returns
 unfolding faultFrom
 returns c =
@@ -34,4 +28,4 @@ returns-3 c =
     rw (bits-seen (s .args .n) _ (s .pre .0) (l .before .top-word .ensures) (s .args .bra) (s .args .ket) (l .before .before .before .shared-slice-known .given) (l .before .before .shared-slice-known2 .given) (s .fits .bra .fits) (s .fits .ket .fits) (l .look .ensures), e .if1 .left, ← l .look .ensures .is-fell, c .if2 .left)
 
 pub word-fault-spec : {M : Type 1} → statement M
-word-fault-spec = tie.close (tie.spec top-word-requires look-requires returns returns-2 returns-3)
+word-fault-spec = tie.close (tie.spec (λ c κs. search needs) (λ c κs. search needs) returns returns-2 returns-3)

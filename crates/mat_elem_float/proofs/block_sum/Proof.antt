@@ -22,39 +22,6 @@ loop-holds c =
     let a = s .args in
     sum-none (a .x .now) (a .z .now) (a .re .now) (a .im .now) (a .ket) (a .first) (a .last) (s .pre .ordered)
 
-mul-exponent : tie.Need-mul-exponent Inv-loop μ-loop
-mul-exponent c = search needs
-
-shared-slice-read-exponent : tie.Need-shared-slice-read-exponent Inv-loop μ-loop
-shared-slice-read-exponent c = search needs
-
-mul-exponent-2 : tie.Need-mul-exponent-2 Inv-loop μ-loop
-mul-exponent-2 c = search needs
-
-shared-slice-read-exponent-2 : tie.Need-shared-slice-read-exponent-2 Inv-loop μ-loop
-shared-slice-read-exponent-2 c = search needs
-
-exponent-requires : tie.Need-exponent-requires Inv-loop μ-loop
-exponent-requires c κs = search needs
-
-mul-step : tie.Need-mul-step Inv-loop μ-loop
-mul-step c = search needs
-
-shared-slice-read-step : tie.Need-shared-slice-read-step Inv-loop μ-loop
-shared-slice-read-step c = search needs
-
-mul-step-2 : tie.Need-mul-step-2 Inv-loop μ-loop
-mul-step-2 c = search needs
-
-shared-slice-read-step-2 : tie.Need-shared-slice-read-step-2 Inv-loop μ-loop
-shared-slice-read-step-2 c = search needs
-
-step-requires : tie.Need-step-requires Inv-loop μ-loop
-step-requires c κs = search needs
-
-both-finite-requires : tie.Need-both-finite-requires Inv-loop μ-loop
-both-finite-requires c κs = search needs
-
 returns : tie.Need-returns Inv-loop μ-loop
 returns c =
     let b = c .before in
@@ -65,12 +32,6 @@ returns c =
     let a = w .before .before .before .before .before .args in
     let e : t .step .result ≡ plus (w .loop .s) (termAt (a .x .now) (a .z .now) (a .re .now) (a .im .now) (a .ket) (w .loop .i)) = t .step .ensures ∙ ap (λ (j : ℕ). plus (w .loop .s) (turnedBy j (coefficient (a .re .now) (a .im .now) (w .loop .i)))) (k .exponent .ensures) in
     sum-bad (a .x .now) (a .z .now) (a .re .now) (a .im .now) (a .ket) (a .first) (a .last) (w .loop .i) (w .loop .s) (t .step .result) (w .loop .inv) (l .loop-test .taken) e (sym (b .both-finite .ensures) ∙ not-true _ (c .if1 .taken))
-
-add-i : tie.Need-add-i Inv-loop μ-loop
-add-i c = search needs
-
-loop-less : tie.Need-loop-less Inv-loop μ-loop
-loop-less c = search needs
 
 loop-again : tie.Need-loop-again Inv-loop μ-loop
 loop-again c =
@@ -96,19 +57,19 @@ block-sum-spec =
     Inv-loop
     μ-loop
     loop-holds
-    mul-exponent
-    shared-slice-read-exponent
-    mul-exponent-2
-    shared-slice-read-exponent-2
-    exponent-requires
-    mul-step
-    shared-slice-read-step
-    mul-step-2
-    shared-slice-read-step-2
-    step-requires
-    both-finite-requires
+    (λ c. search needs)
+    (λ c. search needs)
+    (λ c. search needs)
+    (λ c. search needs)
+    (λ c κs. search needs)
+    (λ c. search needs)
+    (λ c. search needs)
+    (λ c. search needs)
+    (λ c. search needs)
+    (λ c κs. search needs)
+    (λ c κs. search needs)
     returns
-    add-i
-    loop-less
+    (λ c. search needs)
+    (λ c. search needs)
     loop-again
     returns-2)

@@ -7,15 +7,6 @@ use Rattle.mat_elem_float.proofs.Meaning.{mat-elem}
 use Rattle.mat_elem_float.proofs.mat_elem_cmpnts_from_presorted.Statement.{statement}
 use Rattle.mat_elem_float.proofs.mat_elem_cmpnts_from_presorted.Tie as tie
 
-find-block-requires : tie.Need-find-block-requires
-find-block-requires c κs = search needs
-
-enum-known-found : tie.Need-enum-known-found
-enum-known-found c = search needs
-
-enum-known-found-2 : tie.Need-enum-known-found-2
-enum-known-found-2 c = search needs
-
 some-wild-requires : tie.Need-some-wild-requires
 some-wild-requires c κs =
     let f = c .before in
@@ -69,9 +60,9 @@ pub mat-elem-cmpnts-from-presorted-spec : {M : Type 1} → statement M
 mat-elem-cmpnts-from-presorted-spec =
     tie.close
     (tie.spec
-    find-block-requires
-    enum-known-found
-    enum-known-found-2
+    (λ c κs. search needs)
+    (λ c. search needs)
+    (λ c. search needs)
     some-wild-requires
     returns
     returns-2

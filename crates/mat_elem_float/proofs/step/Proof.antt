@@ -4,14 +4,8 @@ use Rattle.mat_elem_float.specs.Sums.{plus}
 use Rattle.mat_elem_float.proofs.step.Statement.{statement}
 use Rattle.mat_elem_float.proofs.step.Tie as tie
 
-turn-requires : tie.Need-turn-requires
-turn-requires c κs = search needs
-
-add-requires : tie.Need-add-requires
-add-requires c κs = search needs
-
 returns : tie.Need-returns
 returns c = c .add .ensures ∙ ap (plus (c .before .before .args .s)) (c .before .turn .ensures)
 
 pub step-spec : {M : Type 1} → statement M
-step-spec = tie.close (tie.spec turn-requires add-requires returns)
+step-spec = tie.close (tie.spec (λ c κs. search needs) (λ c κs. search needs) returns)

@@ -21,28 +21,10 @@ looked-up c (suc (suc zero)) h = refl
 looked-up c (suc (suc (suc zero))) h = refl
 looked-up c (suc (suc (suc (suc k)))) h = absurd (omega arith)
 
-cast-e : tie.Need-cast-e
-cast-e c = search needs
-
-mul-t7 : tie.Need-mul-t7
-mul-t7 c = search needs
-
-array-read-t5 : tie.Need-array-read-t5
-array-read-t5 c = search needs
-
-add-t10 : tie.Need-add-t10
-add-t10 c = search needs
-
-mul-t12 : tie.Need-mul-t12
-mul-t12 c = search needs
-
-array-read-t6 : tie.Need-array-read-t6
-array-read-t6 c = search needs
-
 returns : tie.Need-returns
 returns c =
     let s = c .before .before .before in
     looked-up (s .args .c) (s .args .k .0) (s .pre)
 
 pub turn-spec : {M : Type 1} → statement M
-turn-spec = tie.close (tie.spec cast-e mul-t7 array-read-t5 add-t10 mul-t12 array-read-t6 returns)
+turn-spec = tie.close (tie.spec (λ c. search needs) (λ c. search needs) (λ c. search needs) (λ c. search needs) (λ c. search needs) (λ c. search needs) returns)

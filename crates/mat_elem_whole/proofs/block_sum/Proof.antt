@@ -24,45 +24,12 @@ loop-holds c =
     let a = s .args in
     sum-none (a .x .now) (a .z .now) (a .re .now) (a .im .now) (a .ket) (a .first) (a .last) (s .pre .ordered)
 
-mul-exponent : tie.Need-mul-exponent Inv-loop μ-loop
-mul-exponent c = search needs
-
-shared-slice-read-exponent : tie.Need-shared-slice-read-exponent Inv-loop μ-loop
-shared-slice-read-exponent c = search needs
-
-mul-exponent-2 : tie.Need-mul-exponent-2 Inv-loop μ-loop
-mul-exponent-2 c = search needs
-
-shared-slice-read-exponent-2 : tie.Need-shared-slice-read-exponent-2 Inv-loop μ-loop
-shared-slice-read-exponent-2 c = search needs
-
-exponent-requires : tie.Need-exponent-requires Inv-loop μ-loop
-exponent-requires c κs = search needs
-
-mul-step : tie.Need-mul-step Inv-loop μ-loop
-mul-step c = search needs
-
-shared-slice-copy-out-step : tie.Need-shared-slice-copy-out-step Inv-loop μ-loop
-shared-slice-copy-out-step c = search needs
-
-mul-step-2 : tie.Need-mul-step-2 Inv-loop μ-loop
-mul-step-2 c = search needs
-
-shared-slice-copy-out-step-2 : tie.Need-shared-slice-copy-out-step-2 Inv-loop μ-loop
-shared-slice-copy-out-step-2 c = search needs
-
 step-requires : tie.Need-step-requires Inv-loop μ-loop
 step-requires c κs =
     let w = c .before .before .before .before .before .before in
     let s = w .before .before .before in
     let a = s .args in
     sum-within (a .x .now) (a .z .now) (a .re .now) (a .im .now) (a .ket) (a .first) (a .last) (w .loop .inv) (s .pre .few)
-
-add-i : tie.Need-add-i Inv-loop μ-loop
-add-i c = search needs
-
-loop-less : tie.Need-loop-less Inv-loop μ-loop
-loop-less c = search needs
 
 loop-again : tie.Need-loop-again Inv-loop μ-loop
 loop-again c =
@@ -94,17 +61,17 @@ block-sum-spec =
     Inv-loop
     μ-loop
     loop-holds
-    mul-exponent
-    shared-slice-read-exponent
-    mul-exponent-2
-    shared-slice-read-exponent-2
-    exponent-requires
-    mul-step
-    shared-slice-copy-out-step
-    mul-step-2
-    shared-slice-copy-out-step-2
+    (λ c. search needs)
+    (λ c. search needs)
+    (λ c. search needs)
+    (λ c. search needs)
+    (λ c κs. search needs)
+    (λ c. search needs)
+    (λ c. search needs)
+    (λ c. search needs)
+    (λ c. search needs)
     step-requires
-    add-i
-    loop-less
+    (λ c. search needs)
+    (λ c. search needs)
     loop-again
     returns)

@@ -9,15 +9,6 @@ use Rattle.mat_elem_whole.proofs.Size.{back, within-le}
 use Rattle.mat_elem_whole.proofs.mat_elem_cmpnts_from_presorted.Statement.{statement}
 use Rattle.mat_elem_whole.proofs.mat_elem_cmpnts_from_presorted.Tie as tie
 
-find-block-requires : tie.Need-find-block-requires
-find-block-requires c κs = search needs
-
-enum-known-found : tie.Need-enum-known-found
-enum-known-found c = search needs
-
-enum-known-found-2 : tie.Need-enum-known-found-2
-enum-known-found-2 c = search needs
-
 returns : tie.Need-returns
 returns c =
     let f = c .before .before in
@@ -62,9 +53,9 @@ pub mat-elem-cmpnts-from-presorted-spec : {M : Type 1} → statement M
 mat-elem-cmpnts-from-presorted-spec =
     tie.close
     (tie.spec
-    find-block-requires
-    enum-known-found
-    enum-known-found-2
+    (λ c κs. search needs)
+    (λ c. search needs)
+    (λ c. search needs)
     returns
     block-sum-requires
     returns-2

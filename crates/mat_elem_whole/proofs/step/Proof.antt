@@ -7,9 +7,6 @@ use Rattle.mat_elem_whole.proofs.Size.{within-turned}
 use Rattle.mat_elem_whole.proofs.step.Statement.{statement}
 use Rattle.mat_elem_whole.proofs.step.Tie as tie
 
-coefficient-requires : tie.Need-coefficient-requires
-coefficient-requires c κs = search needs
-
 turn-requires : tie.Need-turn-requires
 turn-requires c κs = subst (Within partMax) (sym (c .coefficient .ensures .0)) (c .coefficient .ensures .1)
 
@@ -27,4 +24,4 @@ returns c =
     c .add .ensures ∙ ap (plus (a .s)) (c .before .turn .ensures ∙ ap (turnedBy (a .k .0)) q)
 
 pub step-spec : {M : Type 1} → statement M
-step-spec = tie.close (tie.spec coefficient-requires turn-requires add-requires returns)
+step-spec = tie.close (tie.spec (λ c κs. search needs) turn-requires add-requires returns)

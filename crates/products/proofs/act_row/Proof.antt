@@ -38,9 +38,6 @@ mul-r c = omega arith
 slice-read-r : tie.Need-slice-read-r Inv-loop μ-loop
 slice-read-r c = omega arith
 
-mul-op-state-phase-u64-requires : tie.Need-mul-op-state-phase-u64-requires Inv-loop μ-loop
-mul-op-state-phase-u64-requires c κs = search needs
-
 add-e : tie.Need-add-e Inv-loop μ-loop
 add-e c = omega arith
 
@@ -53,9 +50,6 @@ slice-write-st c = omega arith
 add-i : tie.Need-add-i Inv-loop μ-loop
 add-i c = omega arith
 
-loop-less : tie.Need-loop-less Inv-loop μ-loop
-loop-less c = search needs
-
 loop-again : tie.Need-loop-again Inv-loop μ-loop
 loop-again c =
     let s = c .before .before .before .before .before .before .before .before .before in
@@ -63,9 +57,6 @@ loop-again c =
 
 cast-t17 : tie.Need-cast-t17 Inv-loop μ-loop
 cast-t17 c = omega arith
-
-same-length : tie.Need-same-length Inv-loop μ-loop
-same-length c = search needs
 
 returns : tie.Need-returns Inv-loop μ-loop
 returns c =
@@ -85,13 +76,13 @@ act-row-spec =
     shared-slice-read-b
     mul-r
     slice-read-r
-    mul-op-state-phase-u64-requires
+    (λ c κs. search needs)
     add-e
     mul-st
     slice-write-st
     add-i
-    loop-less
+    (λ c. search needs)
     loop-again
     cast-t17
-    same-length
+    (λ c. search needs)
     returns)

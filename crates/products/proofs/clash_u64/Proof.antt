@@ -7,9 +7,6 @@ use Rattle.products.proofs.clash_u64.Reads as reads
 use Rattle.products.proofs.clash_u64.Lts as lts
 use Rattle.products.proofs.count.Reads as count-reads
 
-count-requires : tie.Need-count-requires
-count-requires c κs = search needs
-
 returns : tie.Need-returns
 returns c =
     let s = c .before in
@@ -17,4 +14,4 @@ returns c =
     omega arith
 
 pub clash-u64-spec : {M : Type 1} → statement M
-clash-u64-spec = tie.close (tie.spec count-requires returns)
+clash-u64-spec = tie.close (tie.spec (λ c κs. search needs) returns)

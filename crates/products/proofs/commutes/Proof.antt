@@ -21,9 +21,6 @@ Inv-loop lx lz rx rz k n₀ i₀ n i = Summing clash 2 1 lx lz rx rz k n i
 abbrev μ-loop : tie.MeasureT-loop
 μ-loop lx lz rx rz k n₀ i₀ n i = k - i
 
-shortest-requires : tie.Need-shortest-requires Inv-loop μ-loop
-shortest-requires c κs = search needs
-
 loop-holds : tie.Need-loop-holds Inv-loop μ-loop
 loop-holds c =
     let a = c .before .before .before .before .before .args in
@@ -32,42 +29,6 @@ loop-holds c =
       small = zero-le;
       whole = ap (λ (m : ℕ). m % 2) (zero-add (to-come clash (a .lx .now) (a .lz .now) (a .rx .now) (a .rz .now) 0));
     }
-
-mul-clash-u64 : tie.Need-mul-clash-u64 Inv-loop μ-loop
-mul-clash-u64 c = search needs
-
-shared-slice-read-clash-u64 : tie.Need-shared-slice-read-clash-u64 Inv-loop μ-loop
-shared-slice-read-clash-u64 c = search needs
-
-mul-clash-u64-2 : tie.Need-mul-clash-u64-2 Inv-loop μ-loop
-mul-clash-u64-2 c = search needs
-
-shared-slice-read-clash-u64-2 : tie.Need-shared-slice-read-clash-u64-2 Inv-loop μ-loop
-shared-slice-read-clash-u64-2 c = search needs
-
-mul-clash-u64-3 : tie.Need-mul-clash-u64-3 Inv-loop μ-loop
-mul-clash-u64-3 c = search needs
-
-shared-slice-read-clash-u64-3 : tie.Need-shared-slice-read-clash-u64-3 Inv-loop μ-loop
-shared-slice-read-clash-u64-3 c = search needs
-
-mul-clash-u64-4 : tie.Need-mul-clash-u64-4 Inv-loop μ-loop
-mul-clash-u64-4 c = search needs
-
-shared-slice-read-clash-u64-4 : tie.Need-shared-slice-read-clash-u64-4 Inv-loop μ-loop
-shared-slice-read-clash-u64-4 c = search needs
-
-clash-u64-requires : tie.Need-clash-u64-requires Inv-loop μ-loop
-clash-u64-requires c κs = search needs
-
-add-n : tie.Need-add-n Inv-loop μ-loop
-add-n c = search needs
-
-add-i : tie.Need-add-i Inv-loop μ-loop
-add-i c = search needs
-
-loop-less : tie.Need-loop-less Inv-loop μ-loop
-loop-less c = search needs
 
 loop-again : tie.Need-loop-again Inv-loop μ-loop
 loop-again c =
@@ -90,19 +51,19 @@ commutes-spec =
     (tie.spec
     Inv-loop
     μ-loop
-    shortest-requires
+    (λ c κs. search needs)
     loop-holds
-    mul-clash-u64
-    shared-slice-read-clash-u64
-    mul-clash-u64-2
-    shared-slice-read-clash-u64-2
-    mul-clash-u64-3
-    shared-slice-read-clash-u64-3
-    mul-clash-u64-4
-    shared-slice-read-clash-u64-4
-    clash-u64-requires
-    add-n
-    add-i
-    loop-less
+    (λ c. search needs)
+    (λ c. search needs)
+    (λ c. search needs)
+    (λ c. search needs)
+    (λ c. search needs)
+    (λ c. search needs)
+    (λ c. search needs)
+    (λ c. search needs)
+    (λ c κs. search needs)
+    (λ c. search needs)
+    (λ c. search needs)
+    (λ c. search needs)
     loop-again
     returns)

@@ -16,12 +16,6 @@ use Rattle.products.proofs.apart.Reads as apart-reads
 use Rattle.products.proofs.imul_row.Reads as imul-row-reads
 use Rattle.products.proofs.lies.Reads as lies-reads
 
-lies-requires : tie.Need-lies-requires
-lies-requires c κs = search needs
-
-lies-requires-2 : tie.Need-lies-requires-2
-lies-requires-2 c κs = search needs
-
 apart-requires : tie.Need-apart-requires
 apart-requires c κs =
     let l2 = c .before in
@@ -45,12 +39,6 @@ imul-row-requires c κs =
     let l1 = t1 .before in
     let a = l1 .before .before .before .args in
     room-of (a .w) (a .s) (a .t) (a .x .now) (a .z .now) (l1 .lies .result) (l2 .lies2 .result) (ap3 .apart .result) (l1 .lies .ensures) (l2 .lies2 .ensures) (ap3 .apart .ensures) (t1 .if1 .taken) (t2 .if2 .taken) (t3 .if3 .taken)
-
-same-length : tie.Need-same-length
-same-length c = search needs
-
-same-length-2 : tie.Need-same-length-2
-same-length-2 c = search needs
 
 returns : tie.Need-returns
 returns c =
@@ -97,12 +85,12 @@ pub imul-op-op-spec : {M : Type 1} → statement M
 imul-op-op-spec =
     tie.close
     (tie.spec
-    lies-requires
-    lies-requires-2
+    (λ c κs. search needs)
+    (λ c κs. search needs)
     apart-requires
     imul-row-requires
-    same-length
-    same-length-2
+    (λ c. search needs)
+    (λ c. search needs)
     returns
     returns-2
     returns-3

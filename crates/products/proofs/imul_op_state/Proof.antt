@@ -12,18 +12,6 @@ use Rattle.products.proofs.imul_op_state.Lts as lts
 use Rattle.products.proofs.act_first.Reads as act-first-reads
 use Rattle.products.proofs.shorter.Reads as shorter-reads
 
-shorter-requires : tie.Need-shorter-requires
-shorter-requires c κs = search needs
-
-shorter-requires-2 : tie.Need-shorter-requires-2
-shorter-requires-2 c κs = search needs
-
-act-first-requires : tie.Need-act-first-requires
-act-first-requires c κs = search needs
-
-same-length : tie.Need-same-length
-same-length c = search needs
-
 returns : tie.Need-returns
 returns c =
     let r = c .before .before in
@@ -33,4 +21,4 @@ returns c =
 
 pub imul-op-state-spec : {M : Type 1} → statement M
 imul-op-state-spec =
-    tie.close (tie.spec shorter-requires shorter-requires-2 act-first-requires same-length returns)
+    tie.close (tie.spec (λ c κs. search needs) (λ c κs. search needs) (λ c κs. search needs) (λ c. search needs) returns)

@@ -13,21 +13,6 @@ use Rattle.products.proofs.mul_op_op.Lts as lts
 use Rattle.products.proofs.mul_first.Reads as mul-first-reads
 use Rattle.products.proofs.shorter.Reads as shorter-reads
 
-shorter-requires : tie.Need-shorter-requires
-shorter-requires c κs = search needs
-
-shorter-requires-2 : tie.Need-shorter-requires-2
-shorter-requires-2 c κs = search needs
-
-shorter-requires-3 : tie.Need-shorter-requires-3
-shorter-requires-3 c κs = search needs
-
-shorter-requires-4 : tie.Need-shorter-requires-4
-shorter-requires-4 c κs = search needs
-
-shorter-requires-5 : tie.Need-shorter-requires-5
-shorter-requires-5 c κs = search needs
-
 is-shortest : (k5 : tie.After-shorter5) → let s = k5 .before .before .before .before .before .before .before .before .before .before .before in
     (k5 .shorter5 .result ≡ shortest₆ (s .args .lx .now) (s .args .lz .now) (s .args .rx .now) (s .args .rz .now) (s .args .ox .now) (s .args .oz .now))
 is-shortest k5 =
@@ -43,12 +28,6 @@ is-shortest k5 =
 mul-first-requires : tie.Need-mul-first-requires
 mul-first-requires c κs = is-shortest (c .before .before)
 
-same-length : tie.Need-same-length
-same-length c = search needs
-
-same-length-2 : tie.Need-same-length-2
-same-length-2 c = search needs
-
 returns : tie.Need-returns
 returns c =
     let r = c .before .before .before .before in
@@ -59,12 +38,12 @@ pub mul-op-op-spec : {M : Type 1} → statement M
 mul-op-op-spec =
     tie.close
     (tie.spec
-    shorter-requires
-    shorter-requires-2
-    shorter-requires-3
-    shorter-requires-4
-    shorter-requires-5
+    (λ c κs. search needs)
+    (λ c κs. search needs)
+    (λ c κs. search needs)
+    (λ c κs. search needs)
+    (λ c κs. search needs)
     mul-first-requires
-    same-length
-    same-length-2
+    (λ c. search needs)
+    (λ c. search needs)
     returns)

@@ -20,9 +20,6 @@ Inv-loop lx lz rx rz k e₀ i₀ e i = Summing phase 4 (3 * i) lx lz rx rz k e i
 abbrev μ-loop : tie.MeasureT-loop
 μ-loop lx lz rx rz k e₀ i₀ e i = k - i
 
-shortest-requires : tie.Need-shortest-requires Inv-loop μ-loop
-shortest-requires c κs = search needs
-
 loop-holds : tie.Need-loop-holds Inv-loop μ-loop
 loop-holds c =
     let a = c .before .before .before .before .before .args in
@@ -32,45 +29,21 @@ loop-holds c =
       whole = ap (λ (m : ℕ). m % 4) (zero-add (to-come phase (a .lx .now) (a .lz .now) (a .rx .now) (a .rz .now) 0));
     }
 
-mul-mul-op-op-phase-u64 : tie.Need-mul-mul-op-op-phase-u64 Inv-loop μ-loop
-mul-mul-op-op-phase-u64 c = search needs
-
 shared-slice-read-mul-op-op-phase-u64 :
     tie.Need-shared-slice-read-mul-op-op-phase-u64 Inv-loop μ-loop
 shared-slice-read-mul-op-op-phase-u64 c = search needs
-
-mul-mul-op-op-phase-u64-2 : tie.Need-mul-mul-op-op-phase-u64-2 Inv-loop μ-loop
-mul-mul-op-op-phase-u64-2 c = search needs
 
 shared-slice-read-mul-op-op-phase-u64-2 :
     tie.Need-shared-slice-read-mul-op-op-phase-u64-2 Inv-loop μ-loop
 shared-slice-read-mul-op-op-phase-u64-2 c = search needs
 
-mul-mul-op-op-phase-u64-3 : tie.Need-mul-mul-op-op-phase-u64-3 Inv-loop μ-loop
-mul-mul-op-op-phase-u64-3 c = search needs
-
 shared-slice-read-mul-op-op-phase-u64-3 :
     tie.Need-shared-slice-read-mul-op-op-phase-u64-3 Inv-loop μ-loop
 shared-slice-read-mul-op-op-phase-u64-3 c = search needs
 
-mul-mul-op-op-phase-u64-4 : tie.Need-mul-mul-op-op-phase-u64-4 Inv-loop μ-loop
-mul-mul-op-op-phase-u64-4 c = search needs
-
 shared-slice-read-mul-op-op-phase-u64-4 :
     tie.Need-shared-slice-read-mul-op-op-phase-u64-4 Inv-loop μ-loop
 shared-slice-read-mul-op-op-phase-u64-4 c = search needs
-
-mul-op-op-phase-u64-requires : tie.Need-mul-op-op-phase-u64-requires Inv-loop μ-loop
-mul-op-op-phase-u64-requires c κs = search needs
-
-add-e : tie.Need-add-e Inv-loop μ-loop
-add-e c = search needs
-
-add-i : tie.Need-add-i Inv-loop μ-loop
-add-i c = search needs
-
-loop-less : tie.Need-loop-less Inv-loop μ-loop
-loop-less c = search needs
 
 loop-again : tie.Need-loop-again Inv-loop μ-loop
 loop-again c =
@@ -79,9 +52,6 @@ loop-again c =
     let k = l .before in
     let a = k .before .before .before .before .before .args in
     phase-more (a .lx .now) (a .lz .now) (a .rx .now) (a .rz .now) (k .shortest .ensures) (c .mul-op-op-phase-u64 .result) (l .loop .inv) (w .loop-test .taken) (c .mul-op-op-phase-u64 .ensures)
-
-cast-t23 : tie.Need-cast-t23 Inv-loop μ-loop
-cast-t23 c = search needs
 
 returns : tie.Need-returns Inv-loop μ-loop
 returns c =
@@ -96,20 +66,20 @@ mul-op-op-phase-spec =
     (tie.spec
     Inv-loop
     μ-loop
-    shortest-requires
+    (λ c κs. search needs)
     loop-holds
-    mul-mul-op-op-phase-u64
+    (λ c. search needs)
     shared-slice-read-mul-op-op-phase-u64
-    mul-mul-op-op-phase-u64-2
+    (λ c. search needs)
     shared-slice-read-mul-op-op-phase-u64-2
-    mul-mul-op-op-phase-u64-3
+    (λ c. search needs)
     shared-slice-read-mul-op-op-phase-u64-3
-    mul-mul-op-op-phase-u64-4
+    (λ c. search needs)
     shared-slice-read-mul-op-op-phase-u64-4
-    mul-op-op-phase-u64-requires
-    add-e
-    add-i
-    loop-less
+    (λ c κs. search needs)
+    (λ c. search needs)
+    (λ c. search needs)
+    (λ c. search needs)
     loop-again
-    cast-t23
+    (λ c. search needs)
     returns)

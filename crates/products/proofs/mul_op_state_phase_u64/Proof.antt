@@ -9,18 +9,6 @@ use Rattle.products.proofs.mul_op_state_phase_u64.Reads as reads
 use Rattle.products.proofs.mul_op_state_phase_u64.Lts as lts
 use Rattle.products.proofs.count.Reads as count-reads
 
-count-requires : tie.Need-count-requires
-count-requires c κs = search needs
-
-count-requires-2 : tie.Need-count-requires-2
-count-requires-2 c κs = search needs
-
-mul-result : tie.Need-mul-result
-mul-result c = search needs
-
-add-result : tie.Need-add-result
-add-result c = search needs
-
 returns : tie.Need-returns
 returns c =
     let s = c .before .before in
@@ -31,8 +19,8 @@ pub mul-op-state-phase-u64-spec : {M : Type 1} → statement M
 mul-op-state-phase-u64-spec =
     tie.close
     (tie.spec
-    count-requires
-    count-requires-2
-    mul-result
-    add-result
+    (λ c κs. search needs)
+    (λ c κs. search needs)
+    (λ c. search needs)
+    (λ c. search needs)
     returns)

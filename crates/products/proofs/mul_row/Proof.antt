@@ -47,9 +47,6 @@ mul-d c = omega arith
 shared-slice-read-d : tie.Need-shared-slice-read-d Inv-loop μ-loop
 shared-slice-read-d c = omega arith
 
-mul-op-op-phase-u64-requires : tie.Need-mul-op-op-phase-u64-requires Inv-loop μ-loop
-mul-op-op-phase-u64-requires c κs = search needs
-
 add-e : tie.Need-add-e Inv-loop μ-loop
 add-e c = omega arith
 
@@ -68,9 +65,6 @@ slice-write-oz c = omega arith
 add-i : tie.Need-add-i Inv-loop μ-loop
 add-i c = omega arith
 
-loop-less : tie.Need-loop-less Inv-loop μ-loop
-loop-less c = search needs
-
 loop-again : tie.Need-loop-again Inv-loop μ-loop
 loop-again c =
     let l = c .before .before .before .before .before .before in
@@ -78,12 +72,6 @@ loop-again c =
 
 cast-t23 : tie.Need-cast-t23 Inv-loop μ-loop
 cast-t23 c = omega arith
-
-same-length : tie.Need-same-length Inv-loop μ-loop
-same-length c = search needs
-
-same-length-2 : tie.Need-same-length-2 Inv-loop μ-loop
-same-length-2 c = search needs
 
 returns : tie.Need-returns Inv-loop μ-loop
 returns c =
@@ -105,16 +93,16 @@ mul-row-spec =
     shared-slice-read-c
     mul-d
     shared-slice-read-d
-    mul-op-op-phase-u64-requires
+    (λ c κs. search needs)
     add-e
     mul-ox
     slice-write-ox
     mul-oz
     slice-write-oz
     add-i
-    loop-less
+    (λ c. search needs)
     loop-again
     cast-t23
-    same-length
-    same-length-2
+    (λ c. search needs)
+    (λ c. search needs)
     returns)

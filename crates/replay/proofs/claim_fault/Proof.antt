@@ -5,15 +5,6 @@ use Rattle.replay.proofs.Faults.{claim-number, claim-passed}
 use Rattle.replay.proofs.claim_fault.Statement.{statement}
 use Rattle.replay.proofs.claim_fault.Tie as tie
 
-set-fault-requires : tie.Need-set-fault-requires
-set-fault-requires c κs = search needs
-
-fit-fault-requires : tie.Need-fit-fault-requires
-fit-fault-requires c κs = search needs
-
-smaller-requires : tie.Need-smaller-requires
-smaller-requires c κs = search needs
-
 returns : tie.Need-returns
 returns c =
     let a = c .before .before .before .before .before .before .before .args in
@@ -25,4 +16,4 @@ returns c =
 
 pub claim-fault-spec : {M : Type 1} → statement M
 claim-fault-spec =
-    tie.close (tie.spec set-fault-requires fit-fault-requires smaller-requires returns)
+    tie.close (tie.spec (λ c κs. search needs) (λ c κs. search needs) (λ c κs. search needs) returns)

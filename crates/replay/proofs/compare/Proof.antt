@@ -19,9 +19,6 @@ returns c =
     let C = mem (a .cx .now) (a .cz .now) (a .cphases .now) in
     says-differs T C (s .pre) (c .before .first-diff .ensures) (c .if1 .taken)
 
-is-reduced-requires : tie.Need-is-reduced-requires
-is-reduced-requires c κs = search needs
-
 returns-2 : tie.Need-returns-2
 returns-2 c =
     let s = c .before .before .before .before .before .before .before .before .before .before .before .before .before in
@@ -40,4 +37,4 @@ returns-3 c =
 
 pub compare-spec : {M : Type 1} → statement M
 compare-spec =
-    tie.close (tie.spec first-diff-requires returns is-reduced-requires returns-2 returns-3)
+    tie.close (tie.spec first-diff-requires returns (λ c κs. search needs) returns-2 returns-3)

@@ -10,20 +10,8 @@ first-bad-requires c κs =
     let p = c .before .before .before .before .before .before .before .before .before .before .pre .of-task in
     few (p .asked) (p .sound .few-rows)
 
-to-replay-requires : tie.Need-to-replay-requires
-to-replay-requires c κs = search needs
-
 redo-requires : tie.Need-redo-requires
 redo-requires c κs = c .before .before .before .to-replay .ensures .within
-
-same-length : tie.Need-same-length
-same-length c = search needs
-
-same-length-2 : tie.Need-same-length-2
-same-length-2 c = search needs
-
-same-length-3 : tie.Need-same-length-3
-same-length-3 c = search needs
 
 returns : tie.Need-returns
 returns c =
@@ -49,15 +37,6 @@ compare-requires c κs =
     let h = c .before .before .before .if1 .left in
     judge-passed T L (s .pre) (b .ensures) h (k .ensures .else-all h) (d .ensures)
 
-same-length-4 : tie.Need-same-length-4
-same-length-4 c = search needs
-
-same-length-5 : tie.Need-same-length-5
-same-length-5 c = search needs
-
-same-length-6 : tie.Need-same-length-6
-same-length-6 c = search needs
-
 returns-2 : tie.Need-returns-2
 returns-2 c =
     let s = c .before .before .before .before .before .before .before .before .before .before .before .before .before .before .before .before .before .before .before .before .before .before .before .before .before .before .before in
@@ -75,14 +54,14 @@ judge-spec =
     tie.close
     (tie.spec
     first-bad-requires
-    to-replay-requires
+    (λ c κs. search needs)
     redo-requires
-    same-length
-    same-length-2
-    same-length-3
+    (λ c. search needs)
+    (λ c. search needs)
+    (λ c. search needs)
     returns
     compare-requires
-    same-length-4
-    same-length-5
-    same-length-6
+    (λ c. search needs)
+    (λ c. search needs)
+    (λ c. search needs)
     returns-2)

@@ -7,35 +7,11 @@ use borrow.Author.Needs.{needs}
 use Rattle.terms.proofs.canonicalize_all.Statement.{statement}
 use Rattle.terms.proofs.canonicalize_all.Tie as tie
 
-set-fault-requires : tie.Need-set-fault-requires
-set-fault-requires c κs = search needs
-
-same-length : tie.Need-same-length
-same-length c = search needs
-
-same-length-2 : tie.Need-same-length-2
-same-length-2 c = search needs
-
-same-length-3 : tie.Need-same-length-3
-same-length-3 c = search needs
-
 returns : tie.Need-returns
 returns c = let a = c .before .before .before .before .before .before .before .before .before .args in reduce-refused (a .n) _ _ (wholeOutcome (a .n) (mem (a .x .now) (a .z .now) (a .phases .now)) (a .log .now)) (mem (a .x .now) (a .z .now) (a .phases .now)) (a .log .now) (c .before .set-fault .ensures .0) (c .if1 .taken)
 
 reduced-all-requires : tie.Need-reduced-all-requires
 reduced-all-requires c κs = let a = c .before .before .before .before .before .before .before .before .before .before .before .before .before .args in sound-of (a .n) (mem (a .x .now) (a .z .now) (a .phases .now)) (c .before .before .before .before .before .set-fault .ensures .0) (c .before .before .before .before .before .set-fault .ensures .1) (c .before .before .before .before .if1 .left)
-
-same-length-4 : tie.Need-same-length-4
-same-length-4 c = search needs
-
-same-length-5 : tie.Need-same-length-5
-same-length-5 c = search needs
-
-same-length-6 : tie.Need-same-length-6
-same-length-6 c = search needs
-
-same-length-7 : tie.Need-same-length-7
-same-length-7 c = search needs
 
 returns-2 : tie.Need-returns-2
 returns-2 c = leaves-at (sym (c .before .before .before .before .before .before .before .before .before .before .before .before .before .if1 .left) ∙ c .before .before .before .before .before .before .before .before .before .before .before .before .before .before .set-fault .ensures .0) (c .before .before .before .before .before .before .before .before .reduced-all .ensures)
@@ -44,14 +20,14 @@ pub canonicalize-all-spec : {M : Type 1} → statement M
 canonicalize-all-spec =
     tie.close
     (tie.spec
-    set-fault-requires
-    same-length
-    same-length-2
-    same-length-3
+    (λ c κs. search needs)
+    (λ c. search needs)
+    (λ c. search needs)
+    (λ c. search needs)
     returns
     reduced-all-requires
-    same-length-4
-    same-length-5
-    same-length-6
-    same-length-7
+    (λ c. search needs)
+    (λ c. search needs)
+    (λ c. search needs)
+    (λ c. search needs)
     returns-2)

@@ -7,24 +7,9 @@ use Rattle.replay.proofs.Marks.{first-by-lists}
 use Rattle.replay.proofs.entries.first_bad.Statement.{statement}
 use Rattle.replay.proofs.entries.first_bad.Tie as tie
 
-slice-aggregate-mark : tie.Need-slice-aggregate-mark
-slice-aggregate-mark c = search needs
-
-mark-requires : tie.Need-mark-requires
-mark-requires c κs = search needs
-
-slice-aggregate-mark-2 : tie.Need-slice-aggregate-mark-2
-slice-aggregate-mark-2 c = search needs
-
 mark-requires-2 : tie.Need-mark-requires-2
 mark-requires-2 c κs =
     subst (λ m. some (tooLarge m) (c .before .before .before .before .before .before .before .args .listed .now) ≡ false) (sym (c .before .before .mark .kept .1 .1 .0)) (c .before .before .before .before .before .before .before .pre .0)
-
-slice-aggregate-first-bad-by : tie.Need-slice-aggregate-first-bad-by
-slice-aggregate-first-bad-by c = search needs
-
-first-bad-by-requires : tie.Need-first-bad-by-requires
-first-bad-by-requires c κs = search needs
 
 returns : tie.Need-returns
 returns c =
@@ -37,10 +22,10 @@ pub first-bad-spec : {M : Type 1} → statement M
 first-bad-spec =
     tie.close
     (tie.spec
-    slice-aggregate-mark
-    mark-requires
-    slice-aggregate-mark-2
+    (λ c. search needs)
+    (λ c κs. search needs)
+    (λ c. search needs)
     mark-requires-2
-    slice-aggregate-first-bad-by
-    first-bad-by-requires
+    (λ c. search needs)
+    (λ c κs. search needs)
     returns)

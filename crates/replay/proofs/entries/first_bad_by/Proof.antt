@@ -19,30 +19,6 @@ abbrev μ-loop : tie.MeasureT-loop
 loop-holds : tie.Need-loop-holds Inv-loop μ-loop
 loop-holds c = (omega arith, refl)
 
-add-loop : tie.Need-add-loop Inv-loop μ-loop
-add-loop c = search needs
-
-add-loop-2 : tie.Need-add-loop-2 Inv-loop μ-loop
-add-loop-2 c = search needs
-
-add-j : tie.Need-add-j Inv-loop μ-loop
-add-j c = search needs
-
-mul-good-entry : tie.Need-mul-good-entry Inv-loop μ-loop
-mul-good-entry c = search needs
-
-shared-slice-read-good-entry : tie.Need-shared-slice-read-good-entry Inv-loop μ-loop
-shared-slice-read-good-entry c = search needs
-
-add-good-entry : tie.Need-add-good-entry Inv-loop μ-loop
-add-good-entry c = search needs
-
-mul-good-entry-2 : tie.Need-mul-good-entry-2 Inv-loop μ-loop
-mul-good-entry-2 c = search needs
-
-shared-slice-read-good-entry-2 : tie.Need-shared-slice-read-good-entry-2 Inv-loop μ-loop
-shared-slice-read-good-entry-2 c = search needs
-
 good-entry-requires : tie.Need-good-entry-requires Inv-loop μ-loop
 good-entry-requires c κs = tt
 
@@ -52,12 +28,6 @@ returns c =
     let l = c .before .before .before .before .before .loop in
     let g = c .before .good-entry in
     bad-here (goodBy (a .marks .now)) (a .log .now) (l .i) (omega arith) (sym (not-true (g .result) (c .if1 .taken)) ∙ g .ensures) ∙ l .inv .1
-
-add-i : tie.Need-add-i Inv-loop μ-loop
-add-i c = search needs
-
-loop-less : tie.Need-loop-less Inv-loop μ-loop
-loop-less c = search needs
 
 loop-again : tie.Need-loop-again Inv-loop μ-loop
 loop-again c =
@@ -79,17 +49,17 @@ first-bad-by-spec =
     Inv-loop
     μ-loop
     loop-holds
-    add-loop
-    add-loop-2
-    add-j
-    mul-good-entry
-    shared-slice-read-good-entry
-    add-good-entry
-    mul-good-entry-2
-    shared-slice-read-good-entry-2
+    (λ c. search needs)
+    (λ c. search needs)
+    (λ c. search needs)
+    (λ c. search needs)
+    (λ c. search needs)
+    (λ c. search needs)
+    (λ c. search needs)
+    (λ c. search needs)
     good-entry-requires
     returns
-    add-i
-    loop-less
+    (λ c. search needs)
+    (λ c. search needs)
     loop-again
     returns-2)

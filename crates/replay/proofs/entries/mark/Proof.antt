@@ -16,12 +16,6 @@ abbrev μ-loop : tie.MeasureT-loop
 loop-holds : tie.Need-loop-holds Inv-loop μ-loop
 loop-holds c = (omega arith, refl, λ k. refl)
 
-mul-k : tie.Need-mul-k Inv-loop μ-loop
-mul-k c = search needs
-
-shared-slice-read-k : tie.Need-shared-slice-read-k Inv-loop μ-loop
-shared-slice-read-k c = search needs
-
 cast-k : tie.Need-cast-k Inv-loop μ-loop
 cast-k c = omega (arith, c .shared-slice-known .given (c .before .before .loop .i))
 
@@ -30,12 +24,6 @@ slice-write-marks c =
     let a = c .before .before .before .args in
     let l = c .before .before .loop in
     omega (arith, l .inv .1, small (a .list .now) (length (a .marks .now)) (l .i) (c .before .before .before .pre) (omega arith))
-
-add-i : tie.Need-add-i Inv-loop μ-loop
-add-i c = search needs
-
-loop-less : tie.Need-loop-less Inv-loop μ-loop
-loop-less c = search needs
 
 loop-again : tie.Need-loop-again Inv-loop μ-loop
 loop-again c =
@@ -60,12 +48,12 @@ mark-spec =
     Inv-loop
     μ-loop
     loop-holds
-    mul-k
-    shared-slice-read-k
+    (λ c. search needs)
+    (λ c. search needs)
     cast-k
     slice-write-marks
-    add-i
-    loop-less
+    (λ c. search needs)
+    (λ c. search needs)
     loop-again
     same-length
     returns)

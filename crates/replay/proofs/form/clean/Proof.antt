@@ -19,12 +19,6 @@ abbrev μ-loop : tie.MeasureT-loop
 loop-holds : tie.Need-loop-holds Inv-loop μ-loop
 loop-holds c = (omega arith, refl)
 
-mul-off : tie.Need-mul-off Inv-loop μ-loop
-mul-off c = search needs
-
-shared-slice-read-off : tie.Need-shared-slice-read-off Inv-loop μ-loop
-shared-slice-read-off c = search needs
-
 off-requires : tie.Need-off-requires Inv-loop μ-loop
 off-requires c κs = tt
 
@@ -34,12 +28,6 @@ returns c =
     let l = c .before .before .before .before .loop in
     let o = c .before .off in
     every-here (offIn (a .n) (a .x .now) (a .z .now) (a .c) (a .p)) (a .list .now) (l .i) (omega arith) (sym (not-true (o .result) (c .if1 .taken)) ∙ o .ensures) ∙ l .inv .1
-
-add-i : tie.Need-add-i Inv-loop μ-loop
-add-i c = search needs
-
-loop-less : tie.Need-loop-less Inv-loop μ-loop
-loop-less c = search needs
 
 loop-again : tie.Need-loop-again Inv-loop μ-loop
 loop-again c =
@@ -61,11 +49,11 @@ clean-spec =
     Inv-loop
     μ-loop
     loop-holds
-    mul-off
-    shared-slice-read-off
+    (λ c. search needs)
+    (λ c. search needs)
     off-requires
     returns
-    add-i
-    loop-less
+    (λ c. search needs)
+    (λ c. search needs)
     loop-again
     returns-2)

@@ -8,13 +8,10 @@ returns c =
     let a = c .before .before .before .args in
     off-same (a .n) (a .x .now) (a .z .now) (a .c) (a .p) (a .k) (c .if1 .taken)
 
-get-bit-requires : tie.Need-get-bit-requires
-get-bit-requires c κs = search needs
-
 returns-2 : tie.Need-returns-2
 returns-2 c =
     let a = c .before .before .before .before .args in
     off-other (a .n) (a .x .now) (a .z .now) (a .c) (a .p) (a .k) (c .before .if1 .left) (c .get-bit .ensures)
 
 pub off-spec : {M : Type 1} → statement M
-off-spec = tie.close (tie.spec returns get-bit-requires returns-2)
+off-spec = tie.close (tie.spec returns (λ c κs. search needs) returns-2)

@@ -5,17 +5,11 @@ use Rattle.replay.proofs.Looks.{only-no-bit, only-no-listed, only-extra
 use Rattle.replay.proofs.form.only.Statement.{statement}
 use Rattle.replay.proofs.form.only.Tie as tie
 
-get-bit-requires : tie.Need-get-bit-requires
-get-bit-requires c κs = search needs
-
 returns : tie.Need-returns
 returns c =
     let a = c .before .before .before .before .before .before .args in
     let b = c .before .get-bit in
     only-no-bit (a .n) (a .x .now) (a .z .now) (a .listed .now) (a .extra .now) (a .c) (a .p) (sym (not-true (b .result) (c .if1 .taken)) ∙ b .ensures)
-
-clean-requires : tie.Need-clean-requires
-clean-requires c κs = search needs
 
 returns-2 : tie.Need-returns-2
 returns-2 c =
@@ -24,9 +18,6 @@ returns-2 c =
     let l = c .before .clean in
     let one = sym (not-false (b .result) (c .before .before .if1 .left)) ∙ b .ensures in
     only-no-listed (a .n) (a .x .now) (a .z .now) (a .listed .now) (a .extra .now) (a .c) (a .p) one (sym (not-true (l .result) (c .if2 .taken)) ∙ l .ensures)
-
-clean-requires-2 : tie.Need-clean-requires-2
-clean-requires-2 c κs = search needs
 
 returns-3 : tie.Need-returns-3
 returns-3 c =
@@ -39,4 +30,4 @@ returns-3 c =
 pub only-spec : {M : Type 1} → statement M
 only-spec =
     tie.close
-    (tie.spec get-bit-requires returns clean-requires returns-2 clean-requires-2 returns-3)
+    (tie.spec (λ c κs. search needs) returns (λ c κs. search needs) returns-2 (λ c κs. search needs) returns-3)

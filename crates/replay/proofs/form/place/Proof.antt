@@ -4,9 +4,6 @@ use Rattle.replay.proofs.Looks.{looked-none, found-in, looked-some}
 use Rattle.replay.proofs.form.place.Statement.{statement}
 use Rattle.replay.proofs.form.place.Tie as tie
 
-find-requires : tie.Need-find-requires
-find-requires c κs = search needs
-
 returns : tie.Need-returns
 returns c =
     let a = c .before .before .before .before .before .before .args in
@@ -22,9 +19,6 @@ shared-slice-read-only c =
     let a = c .before .before .before .before .before .before .before .args in
     found-in (a .n) (a .x .now) (a .z .now) (a .c) (a .listed .now) (a .extra .now) (a .t) (c .before .before .find .ensures) (c .before .if1 .left)
 
-only-requires : tie.Need-only-requires
-only-requires c κs = search needs
-
 add-t10 : tie.Need-add-t10
 add-t10 c =
     let a = c .before .before .before .before .before .before .before .before .args in
@@ -39,10 +33,10 @@ pub place-spec : {M : Type 1} → statement M
 place-spec =
     tie.close
     (tie.spec
-    find-requires
+    (λ c κs. search needs)
     returns
     mul-only
     shared-slice-read-only
-    only-requires
+    (λ c κs. search needs)
     add-t10
     returns-2)

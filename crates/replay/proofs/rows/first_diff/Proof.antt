@@ -42,12 +42,6 @@ returns c =
     let s = c .before .same-row in
     diff-here (sameRow (a .n)) σ τ m (l .i) (m - l .i) (omega arith) (omega arith) (sym (not-true (s .result) (c .if1 .taken)) ∙ s .ensures) ∙ l .inv .1
 
-add-i : tie.Need-add-i Inv-loop μ-loop
-add-i c = search needs
-
-loop-less : tie.Need-loop-less Inv-loop μ-loop
-loop-less c = search needs
-
 loop-again : tie.Need-loop-again Inv-loop μ-loop
 loop-again c =
     let a = c .before .before .before .before .before .before .before .before .before .before .args in
@@ -76,7 +70,7 @@ first-diff-spec =
     loop-holds
     same-row-requires
     returns
-    add-i
-    loop-less
+    (λ c. search needs)
+    (λ c. search needs)
     loop-again
     returns-2)

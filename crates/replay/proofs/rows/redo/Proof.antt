@@ -21,38 +21,14 @@ loop-holds : tie.Need-loop-holds Inv-loop μ-loop
 unfolding redone
 loop-holds c = (omega arith, (refl, refl, refl), refl)
 
-add-j : tie.Need-add-j Inv-loop μ-loop
-add-j c = search needs
-
-mul-t12 : tie.Need-mul-t12 Inv-loop μ-loop
-mul-t12 c = search needs
-
-shared-slice-read-t14 : tie.Need-shared-slice-read-t14 Inv-loop μ-loop
-shared-slice-read-t14 c = search needs
-
 cast-t15 : tie.Need-cast-t15 Inv-loop μ-loop
 cast-t15 c = omega (arith, c .shared-slice-known2 .given (c .before .before .loop .i + c .before .before .loop .i))
-
-add-t12 : tie.Need-add-t12 Inv-loop μ-loop
-add-t12 c = search needs
-
-mul-t15 : tie.Need-mul-t15 Inv-loop μ-loop
-mul-t15 c = search needs
-
-shared-slice-read-t14-2 : tie.Need-shared-slice-read-t14-2 Inv-loop μ-loop
-shared-slice-read-t14-2 c = search needs
 
 cast-t17 : tie.Need-cast-t17 Inv-loop μ-loop
 cast-t17 c = omega (arith, c .shared-slice-known3 .given (c .before .before .before .loop .i + c .before .before .before .loop .i + 1))
 
 imul-unchecked-requires : tie.Need-imul-unchecked-requires Inv-loop μ-loop
 imul-unchecked-requires c κs = tt
-
-add-i : tie.Need-add-i Inv-loop μ-loop
-add-i c = search needs
-
-loop-less : tie.Need-loop-less Inv-loop μ-loop
-loop-less c = search needs
 
 loop-again : tie.Need-loop-again Inv-loop μ-loop
 loop-again c =
@@ -86,17 +62,17 @@ redo-spec =
     Inv-loop
     μ-loop
     loop-holds
-    add-j
-    mul-t12
-    shared-slice-read-t14
+    (λ c. search needs)
+    (λ c. search needs)
+    (λ c. search needs)
     cast-t15
-    add-t12
-    mul-t15
-    shared-slice-read-t14-2
+    (λ c. search needs)
+    (λ c. search needs)
+    (λ c. search needs)
     cast-t17
     imul-unchecked-requires
-    add-i
-    loop-less
+    (λ c. search needs)
+    (λ c. search needs)
     loop-again
     same-length
     same-length-2

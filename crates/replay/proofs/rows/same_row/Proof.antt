@@ -9,9 +9,6 @@ use Rattle.replay.proofs.Alike.{x-within, z-within, row-x-not, row-z-no
 use Rattle.replay.proofs.rows.same_row.Statement.{statement}
 use Rattle.replay.proofs.rows.same_row.Tie as tie
 
-words-requires : tie.Need-words-requires
-words-requires c κs = search needs
-
 same-words-requires : tie.Need-same-words-requires
 same-words-requires c κs =
     let s = c .before .before .before .before .before .before .before in
@@ -48,12 +45,6 @@ returns-2 c =
     let ne = subst (λ w. row w (a .k) (a .z .now) ≡ row w (a .k) (a .cz .now) → ⊥) e (z .ensures .1 (not-true (z .result) (c .if2 .taken))) in
     row-z-not (a .n) (wordsOf (a .n)) (p .0) (p .1 .0) (p .1 .1 .0) (a .k) (p .1 .1 .1) ne
 
-shared-slice-read-result : tie.Need-shared-slice-read-result
-shared-slice-read-result c = search needs
-
-shared-slice-read-result-2 : tie.Need-shared-slice-read-result-2
-shared-slice-read-result-2 c = search needs
-
 returns-3 : tie.Need-returns-3
 returns-3 c =
     let s = c .before .before .before .before .before .before .before .before .before .before .before .before .before in
@@ -70,11 +61,11 @@ pub same-row-spec : {M : Type 1} → statement M
 same-row-spec =
     tie.close
     (tie.spec
-    words-requires
+    (λ c κs. search needs)
     same-words-requires
     returns
     same-words-requires-2
     returns-2
-    shared-slice-read-result
-    shared-slice-read-result-2
+    (λ c. search needs)
+    (λ c. search needs)
     returns-3)

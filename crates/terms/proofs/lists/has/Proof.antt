@@ -16,23 +16,11 @@ abbrev μ-loop : tie.MeasureT-loop
 loop-holds : tie.Need-loop-holds Inv-loop μ-loop
 loop-holds c = refl
 
-mul-if1 : tie.Need-mul-if1 Inv-loop μ-loop
-mul-if1 c = search needs
-
-shared-slice-read-if1 : tie.Need-shared-slice-read-if1 Inv-loop μ-loop
-shared-slice-read-if1 c = search needs
-
 returns : tie.Need-returns Inv-loop μ-loop
 returns c =
     let s = c .before .before .before .before in
     let l = c .before .before .before .loop in
     sym (has-here (s .args .list .now) (s .args .k) (l .j) (c .before .before .loop-test .taken) (c .if1 .taken)) ∙ l .inv
-
-add-j : tie.Need-add-j Inv-loop μ-loop
-add-j c = search needs
-
-loop-less : tie.Need-loop-less Inv-loop μ-loop
-loop-less c = search needs
 
 loop-again : tie.Need-loop-again Inv-loop μ-loop
 loop-again c =
@@ -53,10 +41,10 @@ has-spec =
     Inv-loop
     μ-loop
     loop-holds
-    mul-if1
-    shared-slice-read-if1
+    (λ c. search needs)
+    (λ c. search needs)
     returns
-    add-j
-    loop-less
+    (λ c. search needs)
+    (λ c. search needs)
     loop-again
     returns-2)

@@ -5,15 +5,6 @@ use borrow.Author.Needs.{needs}
 use Rattle.terms.proofs.lists.lists_fault.Statement.{statement}
 use Rattle.terms.proofs.lists.lists_fault.Tie as tie
 
-too-large-requires : tie.Need-too-large-requires
-too-large-requires c κs = search needs
-
-too-large-requires-2 : tie.Need-too-large-requires-2
-too-large-requires-2 c κs = search needs
-
-too-large-requires-3 : tie.Need-too-large-requires-3
-too-large-requires-3 c κs = search needs
-
 returns : tie.Need-returns
 returns c =
     let a = c .before .before .before .before .before .before .before .args in
@@ -38,9 +29,9 @@ pub lists-fault-spec : {M : Type 1} → statement M
 lists-fault-spec =
     tie.close
     (tie.spec
-    too-large-requires
-    too-large-requires-2
-    too-large-requires-3
+    (λ c κs. search needs)
+    (λ c κs. search needs)
+    (λ c κs. search needs)
     returns
     repeated-requires
     returns-2

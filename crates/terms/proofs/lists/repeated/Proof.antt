@@ -21,29 +21,11 @@ returns c = let s = c .before .before in too-many (s .args .m) (s .args .list .n
 loop-holds : tie.Need-loop-holds Inv-loop μ-loop
 loop-holds c = (search needs, refl)
 
-add-has : tie.Need-add-has Inv-loop μ-loop
-add-has c = search needs
-
-mul-has : tie.Need-mul-has Inv-loop μ-loop
-mul-has c = search needs
-
-shared-slice-read-has : tie.Need-shared-slice-read-has Inv-loop μ-loop
-shared-slice-read-has c = search needs
-
-has-requires : tie.Need-has-requires Inv-loop μ-loop
-has-requires c κs = search needs
-
 returns-2 : tie.Need-returns-2 Inv-loop μ-loop
 returns-2 c =
     let l = c .before .before .before .before .loop in
     let a = c .before .before .before .before .before .before .before .args in
     sym (ap not (sym (l .inv .1) ∙ repeat-here (a .list .now) (l .i) (omega arith) (sym (c .before .has .ensures) ∙ c .if2 .taken)))
-
-add-i : tie.Need-add-i Inv-loop μ-loop
-add-i c = search needs
-
-loop-less : tie.Need-loop-less Inv-loop μ-loop
-loop-less c = search needs
 
 loop-again : tie.Need-loop-again Inv-loop μ-loop
 loop-again c =
@@ -65,12 +47,12 @@ repeated-spec =
     μ-loop
     returns
     loop-holds
-    add-has
-    mul-has
-    shared-slice-read-has
-    has-requires
+    (λ c. search needs)
+    (λ c. search needs)
+    (λ c. search needs)
+    (λ c κs. search needs)
     returns-2
-    add-i
-    loop-less
+    (λ c. search needs)
+    (λ c. search needs)
     loop-again
     returns-3)

@@ -17,29 +17,14 @@ abbrev μ-loop : tie.MeasureT-loop
 loop-holds : tie.Need-loop-holds Inv-loop μ-loop
 loop-holds c = (search needs, refl)
 
-mul-reaches : tie.Need-mul-reaches Inv-loop μ-loop
-mul-reaches c = search needs
-
-shared-slice-read-reaches : tie.Need-shared-slice-read-reaches Inv-loop μ-loop
-shared-slice-read-reaches c = search needs
-
 cast-reaches : tie.Need-cast-reaches Inv-loop μ-loop
 cast-reaches c = omega (arith, c .shared-slice-known2 .given (c .before .before .loop .i))
-
-reaches-requires : tie.Need-reaches-requires Inv-loop μ-loop
-reaches-requires c κs = search needs
 
 returns : tie.Need-returns Inv-loop μ-loop
 returns c =
     let a = c .before .before .before .before .before .before .args in
     let l = c .before .before .before .before .loop in
     sym (some-hit (tooLarge (a .a + a .b)) 0 (a .list .now) (l .i) (c .before .before .before .loop-test .taken) (sym (c .before .reaches .ensures) ∙ c .if1 .taken)) ∙ l .inv .1
-
-add-i : tie.Need-add-i Inv-loop μ-loop
-add-i c = search needs
-
-loop-less : tie.Need-loop-less Inv-loop μ-loop
-loop-less c = search needs
 
 loop-again : tie.Need-loop-again Inv-loop μ-loop
 loop-again c =
@@ -60,12 +45,12 @@ too-large-spec =
     Inv-loop
     μ-loop
     loop-holds
-    mul-reaches
-    shared-slice-read-reaches
+    (λ c. search needs)
+    (λ c. search needs)
     cast-reaches
-    reaches-requires
+    (λ c κs. search needs)
     returns
-    add-i
-    loop-less
+    (λ c. search needs)
+    (λ c. search needs)
     loop-again
     returns-2)

@@ -21,12 +21,6 @@ abbrev μ-loop : tie.MeasureT-loop
 loop-holds : tie.Need-loop-holds Inv-loop μ-loop
 loop-holds c = let s = c .before .before .before .before .before in let a = s .args in going-start (turnC (bitRow (a .n)) (mulRow (a .n)) (capacity (a .log .now)) (a .c) (a .pivot)) (a .list .now) (s .pre .0)
 
-mul-turn : tie.Need-mul-turn Inv-loop μ-loop
-mul-turn c = search needs
-
-shared-slice-read-turn : tie.Need-shared-slice-read-turn Inv-loop μ-loop
-shared-slice-read-turn c = search needs
-
 turn-requires : tie.Need-turn-requires Inv-loop μ-loop
 turn-requires c κs =
     let s = c .before .before .before .before .before .before .before .before .before .before .before .before in
@@ -50,12 +44,6 @@ returns c =
     let a = c .before .before .before .before .before .before .before .before .before .before .before .before .before .before .before .before .before .before .before .before .before .before .args in
     let l = c .before .before .before .before .before .before .before .before .before .before .before .before .before .before .before .before .loop in
     going-full (l .inv) (omega arith) (c .if1 .taken) (does-as (ap (λ m. turnC (bitRow (a .n)) (mulRow (a .n)) (m / 2) (a .c) (a .pivot) (getD (a .list .now) (l .i) 0) (runOf (a .n) (mem (l .x) (l .z) (l .p)) (l .log) (l .r))) (l .inv .log-len)) (c .before .before .before .before .before .before .before .before .before .turn .ensures))
-
-add-i : tie.Need-add-i Inv-loop μ-loop
-add-i c = search needs
-
-loop-less : tie.Need-loop-less Inv-loop μ-loop
-loop-less c = search needs
 
 loop-again : tie.Need-loop-again Inv-loop μ-loop
 loop-again c =
@@ -85,16 +73,16 @@ clear-spec =
     Inv-loop
     μ-loop
     loop-holds
-    mul-turn
-    shared-slice-read-turn
+    (λ c. search needs)
+    (λ c. search needs)
     turn-requires
     same-length
     same-length-2
     same-length-3
     same-length-4
     returns
-    add-i
-    loop-less
+    (λ c. search needs)
+    (λ c. search needs)
     loop-again
     same-length-5
     same-length-6

@@ -12,21 +12,6 @@ use borrow.Author.Needs.{needs}
 use Rattle.terms.proofs.reduce.clear_both.Statement.{statement}
 use Rattle.terms.proofs.reduce.clear_both.Tie as tie
 
-clear-requires : tie.Need-clear-requires
-clear-requires c κs = search needs
-
-same-length : tie.Need-same-length
-same-length c = search needs
-
-same-length-2 : tie.Need-same-length-2
-same-length-2 c = search needs
-
-same-length-3 : tie.Need-same-length-3
-same-length-3 c = search needs
-
-same-length-4 : tie.Need-same-length-4
-same-length-4 c = search needs
-
 returns : tie.Need-returns
 returns c =
     let a = c .before .before .before .before .before .before .before .before .before .before .before .before .before .before .before .before .before .before .before .before .args in
@@ -40,18 +25,6 @@ clear-requires-2 c κs =
     let d = c .before .before .before .before .before .before .before .before .before .before .before .before .before .clear .ensures in
     (ready-next d (c .before .before .before .before .if1 .left), (h .0, omega (arith, d .keeps .e-len, h .1), λ i hi. omega (arith, d .keeps .e-len, h .3 i hi)))
 
-same-length-5 : tie.Need-same-length-5
-same-length-5 c = search needs
-
-same-length-6 : tie.Need-same-length-6
-same-length-6 c = search needs
-
-same-length-7 : tie.Need-same-length-7
-same-length-7 c = search needs
-
-same-length-8 : tie.Need-same-length-8
-same-length-8 c = search needs
-
 returns-2 : tie.Need-returns-2
 returns-2 c =
     let a = c .before .before .before .before .before .before .before .before .before .before .before .before .before .before .before .before .before .before .before .before .before .before .before .before .before .before .before .before .before .before .before .before .before .args in
@@ -64,15 +37,15 @@ pub clear-both-spec : {M : Type 1} → statement M
 clear-both-spec =
     tie.close
     (tie.spec
-    clear-requires
-    same-length
-    same-length-2
-    same-length-3
-    same-length-4
+    (λ c κs. search needs)
+    (λ c. search needs)
+    (λ c. search needs)
+    (λ c. search needs)
+    (λ c. search needs)
     returns
     clear-requires-2
-    same-length-5
-    same-length-6
-    same-length-7
-    same-length-8
+    (λ c. search needs)
+    (λ c. search needs)
+    (λ c. search needs)
+    (λ c. search needs)
     returns-2)

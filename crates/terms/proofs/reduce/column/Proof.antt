@@ -6,15 +6,6 @@ use borrow.Author.Needs.{needs}
 use Rattle.terms.proofs.reduce.column.Statement.{statement}
 use Rattle.terms.proofs.reduce.column.Tie as tie
 
-find-requires : tie.Need-find-requires
-find-requires c κs = search needs
-
-same-length : tie.Need-same-length
-same-length c = search needs
-
-same-length-2 : tie.Need-same-length-2
-same-length-2 c = search needs
-
 returns : tie.Need-returns
 returns c =
     let s = c .before .before .before .before .before .before .before .before .before .before in
@@ -22,9 +13,6 @@ returns c =
     let h = s .pre .1 in
     let d = c .before .find in
     (h .1, column-none (s .pre .0) (a .listed .now) (a .extra .now) (a .c) (find-none (s .pre .0 .sound) (a .listed .now) (a .s .t) (a .c) (d .result) (h .1) (h .2) (h .0) (d .ensures) (c .if1 .taken)))
-
-mul-pivot-by : tie.Need-mul-pivot-by
-mul-pivot-by c = search needs
 
 shared-slice-read-pivot-by : tie.Need-shared-slice-read-pivot-by
 shared-slice-read-pivot-by c =
@@ -34,12 +22,6 @@ shared-slice-read-pivot-by c =
     let d = c .before .before .before .before .before .before .find in
     omega (arith, find-from (s .pre .0 .sound) (a .listed .now) (a .s .t) (a .c) (d .result) (h .1) (h .2) (h .0) (d .ensures), c .before .before .before .before .before .if1 .left)
 
-mul-pivot-by-2 : tie.Need-mul-pivot-by-2
-mul-pivot-by-2 c = search needs
-
-shared-slice-read-pivot-by-2 : tie.Need-shared-slice-read-pivot-by-2
-shared-slice-read-pivot-by-2 c = search needs
-
 pivot-by-requires : tie.Need-pivot-by-requires
 pivot-by-requires c κs =
     let s = c .before .before .before .before .before .before .before .before .before .before .before .before .before .before .before .before in
@@ -47,18 +29,6 @@ pivot-by-requires c κs =
     let h = s .pre .1 in
     let d = c .before .before .before .before .before .before .before .find in
     (s .pre .0, (h .0, h .2 (a .s .t) (omega (arith, find-from (s .pre .0 .sound) (a .listed .now) (a .s .t) (a .c) (d .result) (h .1) (h .2) (h .0) (d .ensures), c .before .before .before .before .before .before .if1 .left)), h .2 (d .result) (omega (arith, c .before .before .before .before .before .before .if1 .left)), h .2, h .3))
-
-same-length-3 : tie.Need-same-length-3
-same-length-3 c = search needs
-
-same-length-4 : tie.Need-same-length-4
-same-length-4 c = search needs
-
-same-length-5 : tie.Need-same-length-5
-same-length-5 c = search needs
-
-same-length-6 : tie.Need-same-length-6
-same-length-6 c = search needs
 
 returns-2 : tie.Need-returns-2
 returns-2 c =
@@ -76,18 +46,6 @@ add-t18 c =
     let d = c .before .before .before .before .before .before .before .before .before .before .before .before .before .before .before .before .before .find in
     omega (arith, find-from (s .pre .0 .sound) (a .listed .now) (a .s .t) (a .c) (d .result) (h .1) (h .2) (h .0) (d .ensures), c .before .before .before .before .before .before .before .before .before .before .before .before .before .before .before .before .if1 .left, s .good .1 .1 .1 .1 .1 .0)
 
-same-length-7 : tie.Need-same-length-7
-same-length-7 c = search needs
-
-same-length-8 : tie.Need-same-length-8
-same-length-8 c = search needs
-
-same-length-9 : tie.Need-same-length-9
-same-length-9 c = search needs
-
-same-length-10 : tie.Need-same-length-10
-same-length-10 c = search needs
-
 returns-3 : tie.Need-returns-3
 returns-3 c =
     let s = c .before .before .before .before .before .before .before .before .before .before .before .before .before .before .before .before .before .before .before .before .before .before .before .before .before .before in
@@ -100,23 +58,23 @@ pub column-spec : {M : Type 1} → statement M
 column-spec =
     tie.close
     (tie.spec
-    find-requires
-    same-length
-    same-length-2
+    (λ c κs. search needs)
+    (λ c. search needs)
+    (λ c. search needs)
     returns
-    mul-pivot-by
+    (λ c. search needs)
     shared-slice-read-pivot-by
-    mul-pivot-by-2
-    shared-slice-read-pivot-by-2
+    (λ c. search needs)
+    (λ c. search needs)
     pivot-by-requires
-    same-length-3
-    same-length-4
-    same-length-5
-    same-length-6
+    (λ c. search needs)
+    (λ c. search needs)
+    (λ c. search needs)
+    (λ c. search needs)
     returns-2
     add-t18
-    same-length-7
-    same-length-8
-    same-length-9
-    same-length-10
+    (λ c. search needs)
+    (λ c. search needs)
+    (λ c. search needs)
+    (λ c. search needs)
     returns-3)

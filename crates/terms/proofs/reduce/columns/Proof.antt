@@ -21,12 +21,6 @@ abbrev μ-loop : tie.MeasureT-loop
 loop-holds : tie.Need-loop-holds Inv-loop μ-loop
 loop-holds c = let s = c .before .before .before .before .before .before .before in let a = s .args in (omega arith, going-start (columnC (bitRow (a .n)) (mulRow (a .n)) (capacity (a .log .now)) (a .listed .now) (a .extra .now)) (a .order .now) (record { sound = s .pre .0; room = omega arith; going = refl }))
 
-mul-c : tie.Need-mul-c Inv-loop μ-loop
-mul-c c = search needs
-
-shared-slice-read-c : tie.Need-shared-slice-read-c Inv-loop μ-loop
-shared-slice-read-c c = search needs
-
 cast-c : tie.Need-cast-c Inv-loop μ-loop
 cast-c c = omega (arith, c .shared-slice-known4 .given (c .before .before .loop .i))
 
@@ -90,8 +84,8 @@ columns-spec =
     Inv-loop
     μ-loop
     loop-holds
-    mul-c
-    shared-slice-read-c
+    (λ c. search needs)
+    (λ c. search needs)
     cast-c
     column-requires
     same-length

@@ -7,32 +7,8 @@ use Rattle.terms.proofs.reduce.turn.Tie as tie
 returns : tie.Need-returns
 returns c = let s = c .before .before .before .before .before in turn-same (s .pre .0) (s .args .c) (s .args .pivot) (s .args .k) (c .if1 .taken)
 
-get-bit-requires : tie.Need-get-bit-requires
-get-bit-requires c κs = search needs
-
-put-requires : tie.Need-put-requires
-put-requires c κs = search needs
-
-same-length : tie.Need-same-length
-same-length c = search needs
-
-same-length-2 : tie.Need-same-length-2
-same-length-2 c = search needs
-
-same-length-3 : tie.Need-same-length-3
-same-length-3 c = search needs
-
-same-length-4 : tie.Need-same-length-4
-same-length-4 c = search needs
-
 returns-2 : tie.Need-returns-2
 returns-2 c = let s = c .before .before .before .before .before .before .before .before .before .before .before .before .before .before .before .before .before .before .before .before .before .before in turn-one (s .pre .0) (s .args .c) (s .args .pivot) (s .args .k) (s .pre .1 .0) (s .pre .1 .2) (c .before .before .before .before .before .before .before .before .before .before .before .before .before .before .before .before .before .if1 .left) (sym (c .before .before .before .before .before .before .before .before .before .before .before .before .before .if2 .taken) ∙ c .before .before .before .before .before .before .before .before .before .before .before .before .before .before .get-bit .ensures) (c .before .before .before .before .before .before .before .before .put .ensures)
-
-same-length-5 : tie.Need-same-length-5
-same-length-5 c = search needs
-
-same-length-6 : tie.Need-same-length-6
-same-length-6 c = search needs
 
 returns-3 : tie.Need-returns-3
 returns-3 c = let s = c .before .before .before .before .before .before .before .before .before in turn-zero (s .pre .0) (s .args .c) (s .args .pivot) (s .args .k) (s .pre .1 .0) (s .pre .1 .2) (c .before .before .before .before .if1 .left) (sym (c .if2 .left) ∙ c .before .get-bit .ensures)
@@ -42,13 +18,13 @@ turn-spec =
     tie.close
     (tie.spec
     returns
-    get-bit-requires
-    put-requires
-    same-length
-    same-length-2
-    same-length-3
-    same-length-4
+    (λ c κs. search needs)
+    (λ c κs. search needs)
+    (λ c. search needs)
+    (λ c. search needs)
+    (λ c. search needs)
+    (λ c. search needs)
     returns-2
-    same-length-5
-    same-length-6
+    (λ c. search needs)
+    (λ c. search needs)
     returns-3)

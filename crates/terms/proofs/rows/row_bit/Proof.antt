@@ -17,12 +17,9 @@ mul-bit-in-2 c = let a = c .before .before .args in omega (arith, small-start (a
 add-bit-in : tie.Need-add-bit-in
 add-bit-in c = let a = c .before .before .args in omega (arith, small-start (a .k) (a .w) (c .before .before .pre .0) (c .before .before .pre .1))
 
-bit-in-requires : tie.Need-bit-in-requires
-bit-in-requires c κs = search needs
-
 returns-2 : tie.Need-returns-2
 returns-2 c = let a = c .before .before .before .args in c .bit-in .ensures ∙ in-row (a .w) (a .k) (a .q) (a .x .now) (omega arith)
 
 pub row-bit-spec : {M : Type 1} → statement M
 row-bit-spec =
-    tie.close (tie.spec returns mul-bit-in mul-bit-in-2 add-bit-in bit-in-requires returns-2)
+    tie.close (tie.spec returns mul-bit-in mul-bit-in-2 add-bit-in (λ c κs. search needs) returns-2)
