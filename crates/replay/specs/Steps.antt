@@ -4,7 +4,7 @@ use mathlib.Core.Path.{_≡_}
 use mathlib.Core.Bool.{Bool, cond, not, _&&_, _||_}
 use mathlib.Core.Option.{Option, none, some}
 use mathlib.Core.List.{List, [], _∷_, _++_}
-use Prim.Native.Nat.{ℕ, suc, _≤_, _<_}
+use Prim.Native.Nat.{ℕ, suc}
 use lib.Dec.{eqb, leb, ltb}
 use lib.ListN.{getD, drop}
 use Rattle.reduction.specs.Lists.{has}
@@ -38,12 +38,6 @@ goodBy marks e = not (eqb (e .target) (e .source)) && leb 1 (getD marks (e .targ
 unfoldable pub firstBadBy : (Entry → Bool) → ℕ → List Entry → Option ℕ
 firstBadBy f i [] = none
 firstBadBy f i (e ∷ es) = cond (f e) (firstBadBy f (suc i) es) (some i)
-
--- how many of h entries are replayed, b being the first bad one, or h for none
-pub record ToReplay (b h k : ℕ) : Type 0 where
-  pub at-bad : b < h → k ≡ 0
-  pub else-all : h ≤ b → k ≡ h
-  pub within : k ≤ h
 
 -- the entries done to rows in memory, one after another
 unfoldable pub redone : ℕ → List Entry → Mem → Mem

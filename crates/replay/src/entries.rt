@@ -8,7 +8,7 @@ ghost use Rattle.encoding.specs.Refusals.{some, tooLarge};
 ghost use Rattle.reduction.specs.Rule.{entry};
 ghost use Rattle.reduction.specs.Log.{pairs};
 ghost use Rattle.reduction.specs.Checker.{firstBad};
-ghost use Rattle.replay.specs.Steps.{Marked, goodBy, firstBadBy, placeOf, ToReplay};
+ghost use Rattle.replay.specs.Steps.{Marked, goodBy, firstBadBy, placeOf};
 use encoding::MAX_ROWS;
 
 // The marks of a row number: in neither list, extra, listed.
@@ -76,11 +76,4 @@ pub(crate) fn first_bad(log: &[u16], listed: &[u16], extra: &[u16]) -> usize
     mark(extra, EXTRA, &mut marks);
     mark(listed, LISTED, &mut marks);
     first_bad_by(&marks, log)
-}
-
-// How many of h entries are replayed, b being the first bad one: none, or all if there is none.
-pub(crate) fn to_replay(b: usize, h: usize) -> usize
-    ensures { λ k. ⌜ ToReplay b h k ⌝ }
-{
-    if b < h { 0 } else { h }
 }

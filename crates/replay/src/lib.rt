@@ -94,11 +94,10 @@ fn judge(
 {
     let h = log.len() / 2;
     let b = entries::first_bad(log, listed, extra);
-    let k = entries::to_replay(b, h);
-    rows::redo(n, x, z, phases, log, k);
     if b < h {
         return Verdict::BadEntry(b);
     }
+    rows::redo(n, x, z, phases, log, h);
     compare(n, x, z, phases, order, listed, extra, cx, cz, cphases)
 }
 
