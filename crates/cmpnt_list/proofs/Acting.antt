@@ -1,22 +1,21 @@
 -- A row on a lent basis state: what the leaf leaves in the state's words, said of the row and the state. Assumes nothing.
 use mathlib.Core.Path.{_≡_, refl, sym, ap, _∙_, subst}
-use mathlib.Core.Bool.{Bool, false}
+use mathlib.Core.Bool.{Bool}
 use mathlib.Core.List.{List}
 use Prim.Native.Nat.{ℕ, _%_, _<_}
 use lib.ListN.{take}
-use Rattle.pauli.specs.Pauli.{Pauli, turn, turnPhase, act, actPhase}
-use Rattle.pauli.specs.declared.PauliMatrix.the-variants.{I}
-use Rattle.pauli.proofs.Lists.{each-take}
+use Rattle.pauli.specs.Pauli.{Pauli, turnPhase, act, actPhase}
 use Rattle.encoding.specs.Limits.{wordsOf}
 use Rattle.encoding.specs.Words.{unbits, pack}
 use Rattle.encoding.specs.Set.{part, row, Mem, count, rowsOf, Sound}
 use Rattle.encoding.specs.Refusals.{fault, stateTests}
 use Rattle.encoding.proofs.Memory.{x-row, z-row, clean}
-use Rattle.encoding.proofs.Padding.{pack-cut, each-only, total-take}
+use Rattle.encoding.proofs.Padding.{total-take}
 use Rattle.encoding.proofs.RowWords.{inWords, first-n}
 use Rattle.encoding.proofs.States.{state-long}
 use Rattle.products.specs.Leaves.{RowAction}
 use Rattle.products.proofs.PartLaws.{same-action}
+use Rattle.products.proofs.Xor.{acted-is}
 use Rattle.cmpnt_list.specs.Workers.{RowAt, StateActed}
 use Rattle.cmpnt_list.proofs.Views.{part-is}
 
@@ -35,8 +34,7 @@ module _ (n : ℕ) {M : Mem} (g : Sound n M) (r : ℕ) (hr : r < count M) {st st
         state =
             q .state
             ∙ ap (λ (k : ℕ). pack (λ (b : Bool). b) k (act u s)) lx
-            ∙ sym (pack-cut (λ (b : Bool). b) false refl w n (act u s) (each-only turn I false false refl n u s c (l .1)))
-            ∙ ap (pack (λ (b : Bool). b) w) (each-take turn n u s ∙ ap (λ (a : List Pauli). act a (take n s)) (first-n n w M r));
+            ∙ acted-is n (g .valid) r hr st z;
         exponent =
             q .exponent
             ∙ ap (λ (k : ℕ). k % 4) (total-take turnPhase (λ b. refl) n u s c ∙ ap (λ (a : List Pauli). actPhase a (take n s)) (first-n n w M r));

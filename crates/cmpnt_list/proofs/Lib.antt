@@ -6,4 +6,5 @@ pub mod Filling
 pub mod Pairing
 pub mod Acting
 pub mod Meaning
+pub mod Again
 pub mod Determined

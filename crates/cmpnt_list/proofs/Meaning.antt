@@ -193,10 +193,10 @@ module _ (n : ℕ) {L R O O′ : Mem} (wl : Words64 L) (wr : Words64 R) (c : Mul
 -- ---- imul_state: the new state is the row's action on the old, and the row's matrix applied to its vector is i to the exponent times the new one's
 
 module _ (n : ℕ) {M : Mem} (w : Words64 M) (r : ℕ) {st st′ : List ℕ} {e : ℕ} (c : ImulState n M r st st′ (phase.Exponent (record { 0 = e }))) where
-  nothing : actionFault n M r st ≡ 0
+  pub nothing : actionFault n M r st ≡ 0
   nothing = phase-is (actionFault n M r st) (actPhaseOn n (rowsOf n M r) (stateOf n st)) e (sym (c .answer)) .0
 
-  parts-ok : (rowFault n M r ≡ 0) × (fault (stateTests n st) ≡ 0)
+  pub parts-ok : (rowFault n M r ≡ 0) × (fault (stateTests n st) ≡ 0)
   parts-ok =
       least-none (rowFault n M r) (fault (stateTests n st)) (joined-fault (joined (setTests n M) (numberTests (tooLarge (count M) r))) (stateTests n st) ∙ nothing)
 
@@ -207,12 +207,16 @@ module _ (n : ℕ) {M : Mem} (w : Words64 M) (r : ℕ) {st st′ : List ℕ} {e 
   old-long : length (stateOf n st) ≡ n
   old-long = length-state n st (state-long n st (parts-ok .1) .0)
 
-  pub state-meaning : stateOf n st′ ≡ actOn n (rowsOf n M r) (stateOf n st)
-  state-meaning =
+  pub acted-long : length (actOn n (rowsOf n M r) (stateOf n st)) ≡ n
+  acted-long =
       let t = take n (rowsOf n M r .ps) in
       let lt : length t ≡ n = ap length (take-same n (rowsOf n M r .ps) row-long) ∙ row-long in
+      length-each turn t (stateOf n st) (old-long ∙ sym lt) ∙ lt
+
+  pub state-meaning : stateOf n st′ ≡ actOn n (rowsOf n M r) (stateOf n st)
+  state-meaning =
       ap (stateOf n) (c .state ∙ ap (λ (k : ℕ). leftOr k st (layState n (actOn n (rowsOf n M r) (stateOf n st)))) nothing)
-      ∙ state-back n (actOn n (rowsOf n M r) (stateOf n st)) (length-each turn t (stateOf n st) (old-long ∙ sym lt) ∙ lt)
+      ∙ state-back n (actOn n (rowsOf n M r) (stateOf n st)) acted-long
 
   pub action-meaning : (v : List Bool) → length v ≡ n → apply n (matrixOf n (rowsOf n M r)) (basis (stateOf n st)) v ≡ ipow e ⊗ basis (stateOf n st′) v
   action-meaning v hv =

@@ -14,3 +14,5 @@ pub mod Sets
 pub mod RowWords
 pub mod Ladder
 pub mod Qubits
+pub mod Again
+pub mod Determined

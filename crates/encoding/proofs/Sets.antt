@@ -1,11 +1,11 @@
 -- Whole row sets: what the tests tell of one, and that they pass a row set within the limits; two sets whose rows agree; the set that holds given rows.
 -- Assumes nothing.
 use mathlib.Core.Path.{_≡_, refl, sym, ap, ap₂, _∙_, subst}
-use mathlib.Core.Bool.{Bool, false, cond, not}
+use mathlib.Core.Bool.{Bool, false, cond, not, _||_}
 use mathlib.Core.List.{List}
 use Prim.Native.Nat.{ℕ, _+_, _*_, _≤_, _<_}
 use native.Mathlib.Omega.{arith}
-use borrow.Author.Tests.{le-ltb, ltb-false, eq-eqb, eqb-true, not-false}
+use borrow.Author.Tests.{le-ltb, ltb-false, leb-false, eq-eqb, eqb-true, not-false}
 use lib.Dec.{ltb, eqb}
 use lib.ListN.{length, getD, drop}
 use lib.Seq.{ext-getD}
@@ -16,12 +16,12 @@ use Rattle.pauli.proofs.RowLaws.{same-bits}
 use Rattle.encoding.specs.Limits.{maxQubits, maxRows, wordsOf}
 use Rattle.encoding.specs.Words.{unpack, qubits, pack, layRows}
 use Rattle.encoding.specs.Set.{row, Mem, count, rowsIn, rowsOf, list, layIn, Valid, Sound}
-use Rattle.encoding.specs.Refusals.{faultFrom, fault, least, some, someBelow, isOn, badLengths, badBits, badPhases, setTests, outTests, numberTests, readTests}
+use Rattle.encoding.specs.Refusals.{faultFrom, fault, least, some, someBelow, isOn, badLengths, badBits, badPhases, setTests, outTests, numberTests, tooLarge, readTests, rowsTests}
 use Rattle.encoding.proofs.Padding.{of-only}
 use Rattle.encoding.proofs.Parts.{row-long, rows-ext, length-list, getD-list, row-lay-list, length-lay-list}
 use Rattle.encoding.proofs.Reading.{length-qubits}
 use Rattle.encoding.proofs.Scan.{none-of, some-none, some-never, any-never}
-use Rattle.encoding.proofs.Faults.{no-test, lengths-fit, joined-fault, number-is}
+use Rattle.encoding.proofs.Faults.{no-test, lengths-fit, joined-fault, least-none, not-large, number-is}
 use Rattle.encoding.proofs.Memory.{mem-eq, Proper, clean, row-count, within-limits}
 
 -- ---- the tests of a set that is read
@@ -61,6 +61,14 @@ pub read-passes : (n : ℕ) (M : Mem) → Sound n M → (large : Bool) → large
 unfolding least
 read-passes n M s large e =
     sym (joined-fault (setTests n M) (numberTests large)) ∙ ap₂ least (set-passes n M s) (sym (number-is large) ∙ ap (λ (b : Bool). cond b 6 0) e)
+
+-- two rows of a set, where none fits
+pub rows-in : (n : ℕ) (M : Mem) (a b : ℕ) → fault (rowsTests n M a b) ≡ 0 → (fault (setTests n M) ≡ 0) × (a < count M) × (b < count M)
+rows-in n M a b e =
+    let large = tooLarge (count M) a || tooLarge (count M) b in
+    let p = least-none (fault (setTests n M)) (fault (numberTests large)) (joined-fault (setTests n M) (numberTests large) ∙ e) in
+    let q = none-of (tooLarge (count M) a) (tooLarge (count M) b) (not-large 5 large (number-is large ∙ p .1)) in
+    (p .0, leb-false (count M) a (q .0), leb-false (count M) b (q .1))
 
 -- what a set that is written only has, where it is passed
 pub record Shaped (n m : ℕ) (O : Mem) : Type 0 where

@@ -58,12 +58,12 @@ getD-on [] k = refl
 getD-on (p ∷ l) zero = refl
 getD-on (p ∷ l) (suc k) = getD-on l k
 
-unbits-at : (xs : List ℕ) (j k : ℕ) → j < length xs → k < 64 → getD (unbits xs) (j * 64 + k) false ≡ bitAt xs j k
+pub unbits-at : (xs : List ℕ) (j k : ℕ) → j < length xs → k < 64 → getD (unbits xs) (j * 64 + k) false ≡ bitAt xs j k
 unbits-at xs j k i l =
     ap (λ (b : List Bool). getD b (j * 64 + k) false) (sym (unbits-on xs)) ∙ getD-on (unpack xs xs) (j * 64 + k)
     ∙ ap isOn (unpack-at xs xs j k i i l) ∙ on-both (bitAt xs j k)
 
-length-unbits : (xs : List ℕ) → length (unbits xs) ≡ length xs * 64
+pub length-unbits : (xs : List ℕ) → length (unbits xs) ≡ length xs * 64
 length-unbits xs = ap length (sym (unbits-on xs)) ∙ length-map (unpack xs xs) isOn ∙ length-unpack xs xs refl
 
 pub length-state : (n : ℕ) (st : List ℕ) → length st ≡ wordsOf n → length (stateOf n st) ≡ n

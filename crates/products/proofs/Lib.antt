@@ -5,3 +5,4 @@ pub mod PartLaws
 pub mod InPlace
 pub mod ActLaws
 pub mod Determined
+pub mod Xor

@@ -9,3 +9,4 @@ pub mod Finished
 pub mod Whole
 pub mod Determined
 pub mod Meaning
+pub mod Again

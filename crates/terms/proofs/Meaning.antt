@@ -7,6 +7,7 @@ use borrow.Author.Tests.{leb-false, eq-eqb, ne-eqb}
 use Rattle.pauli.specs.Row.{Row, mulRow}
 use Rattle.pauli.specs.Matrix.{times, Same, rowMatrix}
 use Rattle.pauli.proofs.Meaning.{row-product}
+use Rattle.encoding.proofs.Sets.{rows-in}
 use Rattle.encoding.specs.Limits.{wordsOf}
 use Rattle.encoding.specs.Set.{Mem, count, rowsOf, lay}
 use Rattle.encoding.specs.Refusals.{fault, setTests, numberTests, rowsTests, tooLarge, leftOr}
@@ -25,16 +26,13 @@ module _ (n a b : ℕ) {M M′ : Mem} (c : Multiplies n a b M M′ Done) where
 
   inside : (a < count M) × (b < count M)
   inside =
-      let large = tooLarge (count M) a || tooLarge (count M) b in
-      let p = least-none (fault (setTests n M)) (fault (numberTests large)) (joined-fault (setTests n M) (numberTests large) ∙ no-fault) in
-      let q = none-of (tooLarge (count M) a) (tooLarge (count M) b) (not-large 5 large (number-is large ∙ p .1)) in
-      (leb-false (count M) a (q .0), leb-false (count M) b (q .1))
+      let p = rows-in n M a b no-fault in
+      (p .1, p .2)
 
   proper : Proper n (count M) (mulAt (mulRow n) (rowsOf n M) a b)
   proper =
-      let large = tooLarge (count M) a || tooLarge (count M) b in
-      let p = least-none (fault (setTests n M)) (fault (numberTests large)) (joined-fault (setTests n M) (numberTests large) ∙ no-fault) in
-      proper-mul a b (inside .0) (inside .1) (read-proper n M (p .0))
+      let p = rows-in n M a b no-fault in
+      proper-mul a b (p .1) (p .2) (read-proper n M (p .0))
 
   now : (k : ℕ) → k < count M → rowsOf n M′ k ≡ mulAt (mulRow n) (rowsOf n M) a b k
   now k h =
