@@ -7,3 +7,4 @@ pub mod Looks
 pub mod Demand
 pub mod OwnLog
 pub mod Examples
+pub mod Witness
