@@ -1,18 +1,47 @@
--- P1 to P12 of document 01: what the definitions give is, row by row, what it says, by computation. Assumes nothing.
+-- P1 to P12 of document 01 and the ends of the floats: the calls' contracts allow, row by row, what it says, by computation. Assumes nothing.
 use mathlib.Core.Path.{_≡_, refl}
+use lib.Ieee.{add, neg}
 use Rattle.pauli.specs.Row.{padMul, mulRow, bitOf}
-use Rattle.pauli.specs.Rows.{commute, holding, countOf}
-use Rattle.encoding.specs.Words.{word, unpack, bits, unbits, join, pack}
-use Rattle.encoding.specs.Set.{rowsIn, list}
+use Rattle.pauli.specs.Rows.{commute, holding, countOf, pairRow}
+use Rattle.encoding.specs.Words.{word, unpack, bits, unbits, join, pack, layRows}
+use Rattle.encoding.specs.Set.{rowsIn, list, layIn}
+use Rattle.encoding.specs.Refusals.{faultFrom, joined, some, someBelow, badBits, badPhases}
+use Rattle.cmpnt_list.specs.Calls.{countIn, commutesWith}
+use Rattle.reduction.specs.Lists.{has, distinct}
 use Rattle.reduction.specs.Rule.{mulAt, multiply, counted, first, clear, pivot, columnBy, column, columns, reduce}
 use Rattle.reduction.specs.Replay.{replay}
+use Rattle.reduction.specs.Log.{units, logged}
 use Rattle.reduction.specs.Capacity.{capped}
-use Rattle.encoding.specs.Refusals.{faultFrom, some}
 use Rattle.mat_elem.specs.Terms.{fallsAfter}
 use Rattle.mat_elem.specs.Sums.{sumOver}
-use Rattle.mat_elem_whole.specs.Sums.{elementOf}
-use Rattle.cases.specs.Table.{table, gots, wants}
+use Rattle.mat_elem_whole.specs.Sums as whole
+use Rattle.mat_elem_float.specs.Sums as float
+use Rattle.mat_elem_float.specs.Sums.{overflows}
+use Rattle.cases.specs.Table.{Table}
 
-pub p1-to-p12 : gots table ≡ wants table
-unfolding table padMul mulRow bitOf commute holding countOf word unpack bits unbits join pack rowsIn list mulAt multiply counted first clear pivot columnBy column columns reduce replay capped faultFrom some fallsAfter sumOver elementOf
-p1-to-p12 = refl
+pub p1-to-p12 : Table
+unfolding padMul mulRow bitOf commute holding countOf pairRow word unpack bits unbits join pack layRows rowsIn list layIn faultFrom joined some someBelow badBits badPhases countIn commutesWith has distinct mulAt multiply counted first clear pivot columnBy column columns reduce replay units logged capped fallsAfter sumOver whole.elementOf float.elementOf overflows add neg
+p1-to-p12 =
+    record {
+      p1 = record { answer = refl; rows = refl };
+      p2 = record { answer = refl; rows = refl };
+      p3 = record { answer = refl; rows = refl };
+      p4 = record { answer = refl; state = refl };
+      p5 = record { answer = refl; state = refl };
+      p6 = refl;
+      p6-64 = refl;
+      p6-0 = refl;
+      p7 = refl;
+      p7-not = refl;
+      p8 = record { answer = refl; rows = refl };
+      p9 = record { answer = refl; number = refl; rows = refl; entries = refl };
+      p10 = record { answer = refl; number = refl; rows = refl; entries = refl };
+      p10-number = refl;
+      p11 = refl;
+      p11-real = refl;
+      p11-none = refl;
+      p12 = refl;
+      list-order = refl;
+      reversed = refl;
+      twice = refl;
+    }
