@@ -173,12 +173,20 @@ fn count_row(x: &[u64], z: &[u64], p: PauliMatrix) -> u64
     k
 }
 
+// What all counts of a row of n qubits add up to.
+fn all_qubits(n: usize) -> u64
+    requires { ⌜ n ≤ maxQubits ⌝ }
+    ensures { λ r. ⌜ r ≡ n ⌝ }
+{
+    n as u64
+}
+
 // The number of qubits that hold the Pauli, of n, from what the masks count.
 fn from_masks(p: PauliMatrix, n: usize, k: u64) -> u64
     requires { ⌜ (n ≤ maxQubits) × (k ≤ n) ⌝ }
     ensures { λ r. ⌜ r ≡ fromMasks p n k ⌝ }
 {
-    let all = n as u64;
+    let all = all_qubits(n);
     match p {
         PauliMatrix::I => all - k,
         PauliMatrix::X => k,

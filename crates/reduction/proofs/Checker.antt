@@ -150,7 +150,7 @@ module _ {R : Type 0} {bit : R → ℕ → Bool} {mul : R → R → R} {ph : R �
     bad-first i e = first-bad listed extra 0 i log (by-bad _ _ _ i e)
 
     pub bad-keeps : (i : ℕ) → verdict bit mul alike m order listed extra σ log claimed ≡ badEntry i → working mul listed extra σ log ≡ σ
-    unfolding verdict working workingBy
+    unfolding verdict working workingBy replay
     bad-keeps i e = ap (λ o. workingBy mul o σ log) (by-bad _ _ _ i e)
 
     -- a differing row is the first in which the full replay and the claim differ

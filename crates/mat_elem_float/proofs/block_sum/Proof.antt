@@ -3,7 +3,7 @@ use native.Mathlib.Omega.{arith}
 use mathlib.Core.Path.{_≡_, sym, ap, _∙_}
 use Prim.Native.Nat.{ℕ, _-_}
 use borrow.Author.Tests.{not-true, not-false}
-use lib.Ieee.{ofBits}
+use lib.Ieee.{ofBits, neg}
 use Rattle.mat_elem_float.specs.Sums.{turnedBy, plus, coefficient, termAt}
 use Rattle.mat_elem_float.proofs.Block.{Summed, sum-none, sum-more, sum-bad, sum-all}
 use Rattle.mat_elem_float.proofs.block_sum.Statement.{statement}
@@ -16,7 +16,7 @@ abbrev μ-loop : tie.MeasureT-loop
 μ-loop x z re im ket first last i₀ s₀ i s = last - i
 
 loop-holds : tie.Need-loop-holds Inv-loop μ-loop
-unfolding ofBits
+unfolding ofBits neg
 loop-holds c =
     let s = c .before .before .before .before in
     let a = s .args in
