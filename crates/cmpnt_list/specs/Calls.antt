@@ -1,4 +1,4 @@
--- Document 01, "Products and actions" and "Refusal numbers", call by call over a row set: the tests that a call makes, what it answers, and what stands
+-- RULES 4, "Products and actions", and 9, "Refusals", call by call over a row set: the tests that a call makes, what it answers, and what stands
 -- in each lent buffer when it returns. M is a set in memory and n its number of qubits; a refusal leaves every buffer as it was. Assumes nothing.
 use mathlib.Core.Path.{_≡_}
 use mathlib.Core.Bool.{Bool, false, not, _||_}

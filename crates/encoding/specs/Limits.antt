@@ -1,4 +1,4 @@
--- Document 01, the limits: n qubits, 0 to 1,024; m rows, 0 to 256. The code's MAX_QUBITS, MAX_ROWS, MAX_PHASE and MAX_COLUMNS
+-- RULES 3.1, the limits: n qubits, 0 to 1,024; m rows, 0 to 256. The code's MAX_QUBITS, MAX_ROWS, MAX_PHASE and MAX_COLUMNS
 -- follow them. Assumes nothing.
 use Prim.Native.Nat.{ℕ, _+_, _/_}
 

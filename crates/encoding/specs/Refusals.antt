@@ -1,4 +1,4 @@
--- Document 01, "Refusal numbers": the lines of the table as tests, in the table's order, and the first number that fits; 0 stands for none. The tests of
+-- RULES 9, "Refusals": the lines of the table as tests, in the table's order, and the first number that fits; 0 stands for none. The tests of
 -- row sets, states and numbers stand here; those of orders, lists, logs and terms beside the calls that take them. Assumes nothing.
 use mathlib.Core.Bool.{Bool, false, cond, not, _||_}
 use mathlib.Core.List.{List, [], _∷_}

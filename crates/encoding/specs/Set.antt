@@ -1,4 +1,4 @@
--- Document 01, "How a row set lies in memory": n qubits, w words to a row, m rows, m being the length of the phase bytes; row r is the part of the words
+-- RULES 3, "How a row set lies in memory": n qubits, w words to a row, m rows, m being the length of the phase bytes; row r is the part of the words
 -- from r × w up to, not including, (r+1) × w. Reading a set out of its words and bytes, and laying it back. Assumes nothing.
 use mathlib.Core.Path.{_≡_}
 use mathlib.Core.Bool.{Bool, cond, _&&_}

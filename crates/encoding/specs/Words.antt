@@ -1,4 +1,4 @@
--- Document 01, "How a row set lies in memory": qubit q is bit q mod 64 of word q div 64, its X part in one run of words and its Z part in another.
+-- RULES 3, "How a row set lies in memory": qubit q is bit q mod 64 of word q div 64, its X part in one run of words and its Z part in another.
 -- Reading Paulis and basis states out of words, and laying them back. Assumes nothing.
 use mathlib.Core.Bool.{Bool, true, false}
 use mathlib.Core.List.{List, [], _∷_, _++_}

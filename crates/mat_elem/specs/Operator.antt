@@ -1,4 +1,4 @@
--- Document 01, "Matrix elements" and "the Pauli matrices decide meaning": the matrix of the whole operator on n qubits. Assumes nothing.
+-- RULES 8, "Matrix elements", and 2.1: the matrix of the whole operator on n qubits. Assumes nothing.
 use mathlib.Core.Bool.{Bool, true}
 use mathlib.Core.List.{List}
 use Prim.Native.Nat.{ℕ}

@@ -1,4 +1,4 @@
--- Document 01, "Matrix elements" and "Refusal numbers": the limits of the terms, the lines of the table that are tested on them, and where the block of
+-- RULES 8, "Matrix elements", and 9, "Refusals": the limits of the terms, the lines of the table that are tested on them, and where the block of
 -- a word lies in X words that never fall. There are as many terms as X words. Assumes nothing.
 use mathlib.Core.Bool.{Bool, false, cond, not, _||_}
 use mathlib.Core.List.{List, [], _∷_}

@@ -1,4 +1,4 @@
--- Document 01, "this has the bits of complex multiplication": the sum as the Rust has it, each coefficient times (1,0), (0,1), (-1,0) or (0,-1), whatever
+-- RULES 8.9, "the bits of the sums by complex multiplication": the sum as the Rust has it, each coefficient times (1,0), (0,1), (-1,0) or (0,-1), whatever
 -- the signs of these 0s, each exponent having its own; and what is promised of the call. Assumes nothing.
 use mathlib.Core.Bool.{Bool, true, false, not}
 use mathlib.Core.List.{List, [], _∷_, _++_}

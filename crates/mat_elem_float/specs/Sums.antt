@@ -1,5 +1,5 @@
--- Document 01, "Matrix elements", in floats: what a term adds, the sum over the block as a fold of additions over the logic's account of IEEE 754, the
--- lines 11 and 12 of "Refusal numbers", and what the call answers. Assumes nothing.
+-- RULES 8, "Matrix elements", in floats: what a term adds, the sum over the block as a fold of additions over the logic's account of IEEE 754, the
+-- lines 11 and 12 of RULES 9.4, and what the call answers. Assumes nothing.
 use mathlib.Core.Bool.{Bool, false, not, _||_, _&&_}
 use mathlib.Core.List.{List, [], _∷_, _++_}
 use Prim.Native.Nat.{ℕ, suc}
@@ -58,7 +58,7 @@ abbrev pub floatTests : ℕ → List ℕ → List ℕ → List Float → List Fl
 floatTests n xs zs re im bra ket =
     termTests n xs zs (length re) (length im) bra ket ++ wild re im ∷ overflows xs zs re im (bitXor bra ket) ket ∷ []
 
--- document 01's number and values for each case: the complex sum has two values, no block none, a refusal its number
+-- the table's number and the values of each case: the complex sum has two values, no block none, a refusal its number
 abbrev pub element : ℕ → Bool → Complex → Element
 element k block s = oneOf Refused NoBlock (Sum (s .re) (s .im)) k block
 

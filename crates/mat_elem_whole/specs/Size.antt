@@ -1,4 +1,4 @@
--- How large the parts of a complex whole number are, so that no sum leaves its 64 bits: document 01's i32 parts, i64 sums and 65,536 terms. Assumes nothing.
+-- How large the parts of a complex whole number are, so that no sum leaves its 64 bits: i32 parts, i64 sums and 65,536 terms (RULES 8.1, 8.7). Assumes nothing.
 use Prim.Native.Nat.{ℕ, _*_, _^_, _≤_}
 use lib.IntN.{natAbs}
 use Rattle.mat_elem.specs.Terms.{maxTerms}

@@ -1,4 +1,4 @@
--- Document 01, "Matrix elements", in whole numbers: what a term adds, the sum over the block, and what the call answers. Sums are exact. Assumes nothing.
+-- RULES 8, "Matrix elements", in whole numbers: what a term adds, the sum over the block, and what the call answers. Sums are exact. Assumes nothing.
 use mathlib.Core.Bool.{Bool}
 use mathlib.Core.List.{List}
 use mathlib.Core.Path.{_≡_}
@@ -33,7 +33,7 @@ termAt xs zs re im ket i = turnedBy (exponentOf (getD xs i 0) (getD zs i 0) ket)
 abbrev pub blockSum : List ℕ → List ℕ → List ℤ → List ℤ → ℕ → ℕ → Complex
 blockSum xs zs re im t ket = sumOver (inBlock xs t) plus (complex (pos 0) (pos 0)) (termAt xs zs re im ket) (length xs)
 
--- document 01's number and values for each case: the complex sum has two values, no block none, a refusal its number
+-- the table's number and the values of each case: the complex sum has two values, no block none, a refusal its number
 abbrev pub element : ℕ → Bool → Complex → Element
 element k block s = oneOf Refused NoBlock (Sum (s .re) (s .im)) k block
 

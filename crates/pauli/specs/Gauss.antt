@@ -1,4 +1,4 @@
--- Document 01, "The Pauli matrices decide meaning": the Gaussian integers re + im i, for whole numbers re and im, as entries of the matrices.
+-- RULES 2.1, "The Pauli matrices decide meaning": the Gaussian integers re + im i, for whole numbers re and im, as entries of the matrices.
 -- Assumes nothing.
 use Prim.Native.Nat.{ℕ, zero, suc}
 use lib.IntN.{ℤ, pos, negℤ, _+ℤ_, _-ℤ_, _*ℤ_}

@@ -1,4 +1,4 @@
--- Document 01, "The Pauli matrices decide meaning (X = [[0,1],[1,0]], Y = [[0,-i],[i,0]], Z = diag(1,-1))": the matrices of Paulis and of rows on n
+-- RULES 2.1 and 2.2, "The Pauli matrices decide meaning (X = [[0,1],[1,0]], Y = [[0,-i],[i,0]], Z = diag(1,-1))": the matrices of Paulis and of rows on n
 -- qubits, by their entries at basis states, sums and products of matrices, and what a matrix does to a basis vector. Assumes nothing.
 use mathlib.Core.Bool.{Bool, true, false, cond, _&&_, Bool·beq}
 use mathlib.Core.List.{List, [], _∷_}

@@ -1,4 +1,4 @@
--- Document 01, "How a row set lies in memory" (the two bits of a Pauli) and "Products and actions": the four Paulis, their products with exponents of i,
+-- RULES 1.4 (the two bits of a Pauli) and 4, "Products and actions": the four Paulis, their products with exponents of i,
 -- and what they do to a basis state. A list of Paulis has qubit 0 first. The Paulis are the code's enum. Assumes nothing.
 use mathlib.Core.Bool.{Bool, true, false, not}
 use mathlib.Core.List.{List, [], _∷_}

@@ -1,4 +1,4 @@
--- Document 01, "Products and actions": a row is its Paulis, qubit 0 first, I from the list's end on, and its phase exponent p, which means i to the p.
+-- RULES 4, "Products and actions": a row is its Paulis, qubit 0 first, I from the list's end on, and its phase exponent p, which means i to the p.
 -- Its product, its columns, and when two rows are the same. n is the number of qubits. Assumes nothing.
 use mathlib.Core.Bool.{Bool, true, false, cond, _&&_, Bool·beq}
 use mathlib.Core.List.{List, [], _∷_}

@@ -1,4 +1,4 @@
--- Document 01, "Products and actions", over the rows of a set: a set is the row at each number. Phase, commutation, central rows, counts, pairwise
+-- RULES 4, "Products and actions", over the rows of a set: a set is the row at each number. Phase, commutation, central rows, counts, pairwise
 -- products, one qubit set, and the action on a basis state. n is the number of qubits, m the number of rows. Assumes nothing.
 use mathlib.Core.Bool.{Bool, true, false, cond, _&&_}
 use mathlib.Core.List.{List, [], _∷_}

@@ -1,4 +1,4 @@
--- Document 01, "Products and actions", at the words: what the row leaves leave. A row is a run of X words and one of Z words; a leaf stops at the end of
+-- RULES 4, "Products and actions", at the words: what the row leaves leave. A row is a run of X words and one of Z words; a leaf stops at the end of
 -- the shortest part that it is lent, as the Rust's izip! does. Assumes nothing.
 use mathlib.Core.Path.{_≡_}
 use mathlib.Core.Bool.{Bool, true, false, _&&_, _||_}

@@ -1,5 +1,5 @@
--- Document 01, "The reduction rule" and refusal 8: a reducer whose log has room for `capacity` entries. Refusal 8 is "given exactly when the rule
--- needs more entries than fit .. and rows and log stand after that many entries". Assumes nothing.
+-- RULES 5, "The reduction rule", and 6.4: a reducer whose log has room for `capacity` entries. Refusal 8 is "given exactly when the rule
+-- needs more entries than the capacity .. Rows and log then stand after that many entries". Assumes nothing.
 use Prim.Native.Nat.{ℕ}
 use mathlib.Core.Bool.{Bool, cond}
 use mathlib.Core.List.{List}

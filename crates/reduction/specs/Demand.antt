@@ -1,4 +1,4 @@
--- What a yes of the checker means, and under which premises a claim is the only one: the words of demand 3. Assumes nothing.
+-- What a yes of the checker means, and under which premises a claim is the only one: the words of RULES 12.3. Assumes nothing.
 use Prim.Native.Nat.{ℕ, _<_}
 use mathlib.Core.Path.{_≡_}
 use mathlib.Core.Bool.{Bool, false}

@@ -1,4 +1,4 @@
--- Document 01, "Reduced form": as worded there (`Form`), and as a test (`reduced`). `test-iff-form` of proofs/Forms.antt proves that they are the
+-- RULES 5.10, reduced form: as worded there (`Form`), and as a test (`reduced`). `test-iff-form` of proofs/Forms.antt proves that they are the
 -- same. Assumes nothing.
 use Prim.Native.Nat.{ℕ, _<_, _≤_}
 use mathlib.Core.Path.{_≡_}

@@ -1,4 +1,4 @@
--- Lists of row numbers and of column numbers, as document 01 speaks of them: a number stands in a list, listed rows stand "each once",
+-- Lists of row numbers and of column numbers, as RULES 1.10 to 1.12 and 5.8 speak of them: a number stands in a list, listed rows stand "each once",
 -- "the number of different rows in the two lists taken together". Assumes nothing.
 use Prim.Native.Nat.{ℕ, suc}
 use mathlib.Core.Path.{_≡_}

@@ -1,4 +1,4 @@
--- Document 01, "The log is u16 pairs, target then source; capacity is half the lent length rounded down; units past the last entry keep their content."
+-- RULES 6.1 to 6.3: the log is u16 pairs, target then source; capacity is half the lent length rounded down; units past the last entry keep their content.
 -- Assumes nothing.
 use Prim.Native.Nat.{ℕ, _/_}
 use mathlib.Core.List.{List, [], _∷_, _++_}

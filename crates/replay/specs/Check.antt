@@ -1,4 +1,4 @@
--- Document 01, "The replay checker" and "Refusal numbers": what a check is given, its refusals, its answer, and the working rows at its end. The
+-- RULES 7, "The replay checker", and 9, "Refusals": what a check is given, its refusals, its answer, and the working rows at its end. The
 -- verdict itself stands in reduction's specs/Checker.antt. Assumes nothing.
 use mathlib.Core.Path.{_≡_}
 use mathlib.Core.Bool.{Bool, false}
@@ -42,7 +42,7 @@ claim log rows = record { log = log; rows = rows }
 abbrev pub logTests : ℕ → List Bool
 logTests units = false ∷ false ∷ false ∷ false ∷ false ∷ false ∷ false ∷ false ∷ odd units ∷ []
 
--- 1 to 5 of the claimed rows, "a set of the same n and m"; 9
+-- 1 to 5 of the claimed rows, "a set of the same n and m" (RULES 7.8); 9
 abbrev pub claimTests : ℕ → ℕ → Claim → List Bool
 claimTests n m L = joined (setTests n (L .rows)) (joined (differentRows m (count (L .rows))) (logTests (length (L .log))))
 

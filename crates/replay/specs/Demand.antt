@@ -1,4 +1,4 @@
--- The words of demand 3, of sets in memory: a right claim, an order that names every column, starting rows without a phase of their own. Each is
+-- The words of RULES 12.3, of sets in memory: a right claim, an order that names every column, starting rows without a phase of their own. Each is
 -- reduction's specs/Demand.antt at Pauli rows. Assumes nothing.
 use Prim.Native.Nat.{_+_}
 use Rattle.pauli.specs.Row.{Row, mulRow, bitRow}
@@ -8,7 +8,7 @@ use Rattle.reduction.specs.Demand.{Right, NamesAll, NoPhase}
 use Rattle.replay.specs.Check.{Task, Claim}
 
 -- Each entry multiplies a listed or extra row by a different, listed row; the full replay gives the claimed bits and phases; and these stand in
--- document 01's reduced form.
+-- the reduced form of RULES 5.10.
 abbrev pub RightClaim : Task → Claim → Type 0
 RightClaim T L =
     Right (bitRow (T .n)) (mulRow (T .n)) (λ (r : Row). r .p) (T .n + T .n) (count (T .start)) (T .order) (T .listed) (T .extra)

@@ -1,5 +1,5 @@
--- The calls of document 01 that are measured, for callers from C and Rust: what such a caller sees of an answer. A slice comes as a pointer and a length;
--- the number returned is 0 for done, else the number of "Refusal numbers"; a value comes through a reference. Assumes nothing.
+-- The calls of RULES 13 that are measured, for callers from C and Rust: what such a caller sees of an answer. A slice comes as a pointer and a length;
+-- the number returned is 0 for done, else the number of RULES 9.4; a value comes through a reference. Assumes nothing.
 use mathlib.Core.Path.{_≡_}
 use Prim.Native.Nat.{ℕ}
 use lib.Ieee.{Float}

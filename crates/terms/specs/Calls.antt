@@ -1,4 +1,4 @@
--- Document 01, "In place, row a by row b of the same set", "The reduction rule" and refusal 8: what the three calls answer, and what they leave in rows,
+-- RULES 4.9, row a by row b of the same set, 5, "The reduction rule", and 6.4: what the three calls answer, and what they leave in rows,
 -- phase bytes and log. f is the first number of the table that fits, 0 for none; a refusal leaves all as it was. Assumes nothing.
 use Prim.Native.Nat.{ℕ, zero, suc, _+_}
 use mathlib.Core.Path.{_≡_}
@@ -23,13 +23,13 @@ pub record Multiplies (n a b : ℕ) (M M′ : Mem) (r : Answer) : Type 0 where
 
 -- ---- reduction with a log
 
--- the answers: 1 to 7, refused with that number; 8, full with the capacity; else done, with "the entry count and t"
+-- the answers: 1 to 7, refused with that number; 8, full with the capacity; else done, with "the number of entries and t" (RULES 5.7)
 abbrev pub answerOf : ℕ → ℕ → Reduced Row → Canonicalized
 answerOf zero room (done s) = Done (length (s .log)) (s .t)
 answerOf zero room (full l σ) = Full room
 answerOf (suc k) room out = Refused (suc k)
 
--- document 01's number of each answer, 0 for done; and the number of the whole call: what is tested first, then 8 in the work
+-- the table's number of each answer, 0 for done; and the number of the whole call: what is tested first, then 8 in the work
 abbrev pub logFull : ℕ
 logFull = 8
 

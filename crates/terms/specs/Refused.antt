@@ -1,4 +1,4 @@
--- Document 01, refusals 6 and 7, of the column order and the lists that a reduction and its check take: n qubits, m rows. Assumes nothing.
+-- RULES 9.4, refusals 6 and 7, of the column order and the lists that a reduction and its check take: n qubits, m rows. Assumes nothing.
 use mathlib.Core.Bool.{Bool, false, not, _||_}
 use mathlib.Core.List.{List, [], _∷_}
 use Prim.Native.Nat.{ℕ, _+_}
