@@ -9,7 +9,7 @@ use lib.Pow.{pow-pos}
 use Rattle.pauli.specs.Pauli.{Pauli, total, phase, phases, turnPhase, actPhase, clash, clashes}
 use Rattle.encoding.specs.Words.{odd, word, bits}
 use Rattle.pauli.specs.Pauli.{ofBits}
-use Rattle.products.proofs.Masks.{Mask, var, inv, both, differ, Below, counted, place, places, everyL, counts}
+use Rattle.products.proofs.Masks.{Mask, var, inv, both, either, differ, Below, counted, place, places, everyL, counts}
 
 pub below₄ : (d : ℕ) {a b c e : ℕ} → a < 2 ^ d → b < 2 ^ d → c < 2 ^ d → e < 2 ^ d → Below d (a ∷ b ∷ c ∷ e ∷ [])
 below₄ d ha hb hc he zero = ha
@@ -60,15 +60,11 @@ rz = var 3
 abbrev all₄ : Mask → Mask → Mask → Mask → Mask
 all₄ a b c d = both (both (both a b) c) d
 
--- XY, YX, XZ, ZX, YZ and ZY
-abbrev pub six : List (ℕ × Mask)
-six =
-    (1, all₄ lx (inv lz) rx rz)
-    ∷ (3, all₄ lx lz rx (inv rz))
-    ∷ (3, all₄ lx (inv lz) (inv rx) rz)
-    ∷ (1, all₄ (inv lx) lz rx (inv rz))
-    ∷ (1, all₄ lx lz (inv rx) rz)
-    ∷ (3, all₄ (inv lx) lz rx rz)
+-- XY, ZX and YZ bring 1; YX, XZ and ZY bring 3
+abbrev pub joined : List (ℕ × Mask)
+joined =
+    (1, either (either (all₄ lx (inv lz) rx rz) (all₄ (inv lx) lz rx (inv rz))) (all₄ lx lz (inv rx) rz))
+    ∷ (3, either (either (all₄ lx lz rx (inv rz)) (all₄ lx (inv lz) (inv rx) rz)) (all₄ (inv lx) lz rx rz))
     ∷ []
 
 -- where the Paulis clash
@@ -86,8 +82,8 @@ pub counts₄ : (v : Pauli → Pauli → ℕ) (ms : List (ℕ × Mask)) → T (e
     → (d a b c e : ℕ) → Below d (a ∷ b ∷ c ∷ e ∷ []) → counted d (a ∷ b ∷ c ∷ e ∷ []) ms ≡ total v (word d a b) (word d c e)
 counts₄ v ms t d a b c e h = counts ms (λ bs. v (leftP bs) (rightP bs)) 4 t d (a ∷ b ∷ c ∷ e ∷ []) refl h ∙ total-places v d a b c e
 
-pub six-phases : (d a b c e : ℕ) → Below d (a ∷ b ∷ c ∷ e ∷ []) → counted d (a ∷ b ∷ c ∷ e ∷ []) six ≡ phases (word d a b) (word d c e)
-six-phases = counts₄ phase six tt
+pub joined-phases : (d a b c e : ℕ) → Below d (a ∷ b ∷ c ∷ e ∷ []) → counted d (a ∷ b ∷ c ∷ e ∷ []) joined ≡ phases (word d a b) (word d c e)
+joined-phases = counts₄ phase joined tt
 
 pub apart-clashes : (d a b c e : ℕ) → Below d (a ∷ b ∷ c ∷ e ∷ []) → counted d (a ∷ b ∷ c ∷ e ∷ []) apart ≡ clashes (word d a b) (word d c e)
 apart-clashes = counts₄ clash apart tt

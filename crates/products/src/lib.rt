@@ -22,13 +22,9 @@ pub fn count(x: u64) -> u64
 pub extern "C" fn mul_op_op_phase_u64(lx: u64, lz: u64, rx: u64, rz: u64) -> u64
     ensures { λ r. ⌜ r ≡ phases (word 64 lx lz) (word 64 rx rz) % 4 ⌝ }
 {
-    let xy = count(lx & !lz & rx & rz);
-    let yx = count(lx & lz & rx & !rz);
-    let xz = count(lx & !lz & !rx & rz);
-    let zx = count(!lx & lz & rx & !rz);
-    let yz = count(lx & lz & !rx & rz);
-    let zy = count(!lx & lz & rx & rz);
-    (xy + 3 * yx + 3 * xz + zx + yz + 3 * zy) % 4
+    let one = count((lx & !lz & rx & rz) | (!lx & lz & rx & !rz) | (lx & lz & !rx & rz));
+    let three = count((lx & lz & rx & !rz) | (lx & !lz & !rx & rz) | (!lx & lz & rx & rz));
+    (one + 3 * three) % 4
 }
 
 // The exponent of i of a word of 64 Paulis on a basis state: 1 for each Y, and 2 more for each Y or Z on a 1.
