@@ -86,9 +86,12 @@ fn pairwise(left: &Set, right: &Set) {
     let m = left.phases.len();
     let (rust_left, rust_right) = (left.terms().word_iters, right.terms().word_iters);
     let mut out = Set { n: left.n, x: vec![!0; left.x.len()], z: vec![!0; left.z.len()], phases: vec![!0; m] };
-    assert_eq!(ours::cmpnts_mul_pairwise(left, right, &mut out), 0);
+    let mut clashes = vec![!0u16; m];
+    assert_eq!(ours::cmpnts_mul_pairwise(left, right, &mut out, &mut clashes), 0);
     let (rows, phases) = rust_left.cmpnts_mul_pairwise(&rust_right).unwrap();
     agree(name, text(&out), format!("{} {}", fields::rows_text(&rows), fields::phases_text(&phases)));
+    let numbers = (0..m).map(|i| fields::clashes(left.n, &rust_left, i, &rust_right, i));
+    agree(name, fields::joined(clashes.iter()), fields::joined(numbers));
     let calls = 25_600 / m;
     line(
         name,
@@ -96,7 +99,7 @@ fn pairwise(left: &Set, right: &Set) {
         Side(calls, || {
             time(|| {
                 for _ in 0..calls {
-                    assert_eq!(ours::cmpnts_mul_pairwise(black_box(left), black_box(right), &mut out), 0);
+                    assert_eq!(ours::cmpnts_mul_pairwise(black_box(left), black_box(right), &mut out, &mut clashes), 0);
                 }
             })
         }),

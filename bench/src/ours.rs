@@ -36,6 +36,8 @@ extern "C" {
         oz_len: usize,
         op: *mut u8,
         op_len: usize,
+        clashes: *mut u16,
+        clashes_len: usize,
     ) -> u8;
 
     fn speed_imul(
@@ -48,6 +50,7 @@ extern "C" {
         phases_len: usize,
         a: usize,
         b: usize,
+        clashes: *mut u16,
     ) -> u8;
 
     fn speed_canonicalize_all(
@@ -97,7 +100,7 @@ pub fn compatibility_matrix(set: &Set, out: &mut [u64]) -> u8 {
     }
 }
 
-pub fn cmpnts_mul_pairwise(left: &Set, right: &Set, out: &mut Set) -> u8 {
+pub fn cmpnts_mul_pairwise(left: &Set, right: &Set, out: &mut Set, clashes: &mut [u16]) -> u8 {
     unsafe {
         speed_cmpnts_mul_pairwise(
             left.n,
@@ -119,11 +122,14 @@ pub fn cmpnts_mul_pairwise(left: &Set, right: &Set, out: &mut Set) -> u8 {
             out.z.len(),
             out.phases.as_mut_ptr(),
             out.phases.len(),
+            clashes.as_mut_ptr(),
+            clashes.len(),
         )
     }
 }
 
 pub fn imul(set: &mut Set, a: usize, b: usize) -> u8 {
+    let mut clashes = 0;
     unsafe {
         speed_imul(
             set.n,
@@ -135,6 +141,7 @@ pub fn imul(set: &mut Set, a: usize, b: usize) -> u8 {
             set.phases.len(),
             a,
             b,
+            &mut clashes,
         )
     }
 }

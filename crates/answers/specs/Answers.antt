@@ -16,6 +16,8 @@ use Rattle.cmpnt_list.specs.declared.Phase.{Phase}
 use Rattle.cmpnt_list.specs.declared.Phase.the-variants as phase
 use Rattle.cmpnt_list.specs.declared.Truth.{Truth}
 use Rattle.cmpnt_list.specs.declared.Truth.the-variants as truth
+use Rattle.terms.specs.declared.Clashes.{Clashes}
+use Rattle.terms.specs.declared.Clashes.the-variants as clash
 use Rattle.terms.specs.declared.Canonicalized.{Canonicalized}
 use Rattle.terms.specs.declared.Canonicalized.the-variants as reduced
 use Rattle.replay.specs.declared.Verdict.{Verdict}
@@ -54,6 +56,16 @@ gotLine (got.Refused k) = refuse k
 abbrev pub changedLine : Answer → List ℕ → List ℕ → List ℕ → List Field
 changedLine answer.Done x z p = ok ∷ set x z p
 changedLine (answer.Refused k) x z p = refuse k
+
+-- ok X Z P and the numbers of clashes
+abbrev pub pairLine : Answer → List ℕ → List ℕ → List ℕ → List ℕ → List Field
+pairLine answer.Done x z p c = ok ∷ (set x z p ++ (bytes c ∷ []))
+pairLine (answer.Refused k) x z p c = refuse k
+
+-- ok X Z P c
+abbrev pub productLine : Clashes → List ℕ → List ℕ → List ℕ → List Field
+productLine (clash.Number c) x z p = ok ∷ (set x z p ++ (number c ∷ []))
+productLine (clash.Refused k) x z p = refuse k
 
 -- ---- count
 

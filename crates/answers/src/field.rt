@@ -99,6 +99,13 @@ pub(crate) fn say_bytes(out: &mut [u8; ROOM], at: usize, xs: &[u8]) -> usize
     lineout::bytes(out, at, xs)
 }
 
+pub(crate) fn say_numbers(out: &mut [u8; ROOM], at: usize, xs: &[u16]) -> usize
+    ensures { λ r. ⌜ Said (Spaced (bytes (now (xs .entry)) ∷ [])) (now (out .entry)) at (now (out .exit)) r ⌝ }
+{
+    let at = lineout::byte(out, at, b' ');
+    lineout::halves(out, at, xs)
+}
+
 pub(crate) fn say_log(out: &mut [u8; ROOM], at: usize, xs: &[u16]) -> usize
     ensures { λ r. ⌜ Said (Spaced (log (now (xs .entry)) ∷ [])) (now (out .entry)) at (now (out .exit)) r ⌝ }
 {

@@ -10,6 +10,8 @@ use lineout::ROOM;
 pub use rows::changed;
 pub use rows::check;
 pub use rows::matrix;
+pub use rows::multiplied;
+pub use rows::paired;
 pub use rows::reduced;
 pub use values::act;
 pub use values::act_of_word;

@@ -5,9 +5,11 @@ ghost use Prim.Native.Nat.{_*_};
 ghost use lib.ListN.{take};
 ghost use Rattle.lineout.specs.Writing.{Said};
 ghost use Rattle.answers.specs.Fields.{Spaced, Line, number};
-ghost use Rattle.answers.specs.Answers.{ok, refuse, set, standing, changedLine, matrixLine, reduceLine, checkLine};
+ghost use Rattle.answers.specs.Answers.{ok, refuse, set, standing, changedLine, pairLine, productLine, matrixLine, reduceLine, checkLine};
 use crate::field::say_bytes;
 use crate::field::say_log;
+use crate::field::say_number;
+use crate::field::say_numbers;
 use crate::field::say_ok;
 use crate::field::say_refuse;
 use crate::field::say_size;
@@ -16,6 +18,7 @@ use encoding::Answer;
 use lineout::ROOM;
 use replay::Verdict;
 use terms::Canonicalized;
+use terms::Clashes;
 
 // X Z P
 fn say_set(out: &mut [u8; ROOM], at: usize, x: &[u64], z: &[u64], p: &[u8]) -> usize
@@ -26,7 +29,7 @@ fn say_set(out: &mut [u8; ROOM], at: usize, x: &[u64], z: &[u64], p: &[u8]) -> u
     say_bytes(out, at, p)
 }
 
-// set, imul, pair
+// set
 pub fn changed(out: &mut [u8; ROOM], at: usize, a: Answer, x: &[u64], z: &[u64], p: &[u8]) -> usize
     ensures { λ r. ⌜ Said (Line (changedLine a (now (x .entry)) (now (z .entry)) (now (p .entry)))) (now (out .entry)) at (now (out .exit)) r ⌝ }
 {
@@ -36,6 +39,49 @@ pub fn changed(out: &mut [u8; ROOM], at: usize, a: Answer, x: &[u64], z: &[u64],
             say_set(out, at, x, z, p)
         }
         Answer::Refused(k) => say_refuse(out, at, k),
+    }
+}
+
+// pair: the set, and the numbers of clashes
+pub fn paired(
+    out: &mut [u8; ROOM],
+    at: usize,
+    a: Answer,
+    x: &[u64],
+    z: &[u64],
+    p: &[u8],
+    clashes: &[u16],
+) -> usize
+    ensures { λ r. ⌜ Said (Line (pairLine a (now (x .entry)) (now (z .entry)) (now (p .entry)) (now (clashes .entry)))) (now (out .entry)) at (now (out .exit)) r ⌝ }
+{
+    match a {
+        Answer::Done => {
+            let at = say_ok(out, at);
+            let at = say_set(out, at, x, z, p);
+            say_numbers(out, at, clashes)
+        }
+        Answer::Refused(k) => say_refuse(out, at, k),
+    }
+}
+
+// imul: the set, and the number of clashes
+pub fn multiplied(
+    out: &mut [u8; ROOM],
+    at: usize,
+    d: Clashes,
+    x: &[u64],
+    z: &[u64],
+    p: &[u8],
+) -> usize
+    ensures { λ r. ⌜ Said (Line (productLine d (now (x .entry)) (now (z .entry)) (now (p .entry)))) (now (out .entry)) at (now (out .exit)) r ⌝ }
+{
+    match d {
+        Clashes::Number(k) => {
+            let at = say_ok(out, at);
+            let at = say_set(out, at, x, z, p);
+            say_number(out, at, k as u64)
+        }
+        Clashes::Refused(k) => say_refuse(out, at, k),
     }
 }
 

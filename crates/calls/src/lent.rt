@@ -86,5 +86,20 @@ fn product(
     let mut x = [u64::MAX; WORDS];
     let mut z = [u64::MAX; WORDS];
     let mut p = [u8::MAX; ROWS];
-    lending::pairwise(out, at, q, lx, lz, lp, rx, rz, rp, &mut x, &mut z, &mut p)
+    let mut clashes = [u16::MAX; ROWS];
+    lending::pairwise(
+        out,
+        at,
+        q,
+        lx,
+        lz,
+        lp,
+        rx,
+        rz,
+        rp,
+        &mut x,
+        &mut z,
+        &mut p,
+        &mut clashes,
+    )
 }

@@ -33,8 +33,9 @@ pub compatibility-matrix-one : {n : ℕ} {M : Mem} {out o₁ o₂ : List ℕ} {a
     → CompatibilityMatrix n M out o₁ a → CompatibilityMatrix n M out o₂ b → (a ≡ b) × (o₁ ≡ o₂)
 compatibility-matrix-one c d = (c .answer ∙ sym (d .answer), c .matrix ∙ sym (d .matrix))
 
-pub mul-pairwise-one : {n : ℕ} {L R O O₁ O₂ : Mem} {a b : Answer} → MulPairwise n L R O O₁ a → MulPairwise n L R O O₂ b → (a ≡ b) × (O₁ ≡ O₂)
-mul-pairwise-one c d = (c .answer ∙ sym (d .answer), c .rows ∙ sym (d .rows))
+pub mul-pairwise-one : {n : ℕ} {L R O O₁ O₂ : Mem} {cs c₁ c₂ : List ℕ} {a b : Answer}
+    → MulPairwise n L R O O₁ cs c₁ a → MulPairwise n L R O O₂ cs c₂ b → (a ≡ b) × (O₁ ≡ O₂) × (c₁ ≡ c₂)
+mul-pairwise-one c d = (c .answer ∙ sym (d .answer), c .rows ∙ sym (d .rows), c .numbers ∙ sym (d .numbers))
 
 pub imul-state-one : {n : ℕ} {M : Mem} {r : ℕ} {st s₁ s₂ : List ℕ} {a b : Phase} → ImulState n M r st s₁ a → ImulState n M r st s₂ b → (a ≡ b) × (s₁ ≡ s₂)
 imul-state-one c d = (c .answer ∙ sym (d .answer), c .state ∙ sym (d .state))

@@ -16,9 +16,9 @@ use Rattle.pauli.specs.Gauss.{_⊗_, ipow}
 use Rattle.pauli.specs.Pauli.{Pauli, _·_, turn}
 use Rattle.pauli.specs.declared.PauliMatrix.the-variants.{I, X, Y, Z}
 use Rattle.pauli.specs.Row.{Row, mulRow}
-use Rattle.pauli.specs.Rows.{phaseOf, commute, central, holding, countOf, pairRow, withQubit, actOn, actPhaseOn}
-use Rattle.pauli.specs.Matrix.{times, scaled, Same, Commute, matrixOf, rowMatrix, basis, apply}
-use Rattle.pauli.proofs.Meaning.{matrix-product, pairwise-product, commute-iff, central-iff, count-held, counts-add-up, action}
+use Rattle.pauli.specs.Rows.{phaseOf, clashesOf, commute, central, holding, countOf, pairRow, withQubit, actOn, actPhaseOn}
+use Rattle.pauli.specs.Matrix.{times, scaled, Same, Commute, Anticommute, matrixOf, rowMatrix, basis, apply}
+use Rattle.pauli.proofs.Meaning.{matrix-product, pairwise-product, commute-iff, clashes-even, clashes-odd, central-iff, count-held, counts-add-up, action}
 use Rattle.encoding.specs.Limits.{maxRows, wordsOf}
 use Rattle.encoding.specs.Words.{bitAt}
 use Rattle.encoding.specs.Set.{Mem, count, rowsIn, rowsOf, list, lay, Valid, Sound, stateOf, layState}
@@ -33,7 +33,7 @@ use Rattle.encoding.specs.declared.Answer.the-variants.{Done, Refused}
 use Rattle.encoding.proofs.BitLaws.{bit-lay}
 use Rattle.encoding.proofs.States.{state-long, length-state, state-back}
 use Rattle.encoding.proofs.Sets.{read-passes}
-use Rattle.cmpnt_list.specs.Calls.{gotOr, tallyOr, phaseOr, truthOr, rowFault, rowsFault, qubitFault, matrixFault, pairwiseFault, actionFault, laidMatrix, commuting, pairs, getQubit, SetQubit, countIn, phaseOfMul, commutesWith, belongsToCentralizer, CompatibilityMatrix, MulPairwise, ImulState}
+use Rattle.cmpnt_list.specs.Calls.{gotOr, tallyOr, phaseOr, truthOr, rowFault, rowsFault, qubitFault, matrixFault, pairwiseFault, actionFault, laidMatrix, commuting, pairs, pairNumbers, getQubit, SetQubit, countIn, phaseOfMul, commutesWith, belongsToCentralizer, CompatibilityMatrix, MulPairwise, ImulState}
 use Rattle.cmpnt_list.specs.Workers.{Asked}
 use Rattle.cmpnt_list.specs.declared.Got.the-variants as got
 use Rattle.cmpnt_list.specs.declared.Tally.the-variants as tally
@@ -165,16 +165,16 @@ module _ (n : ℕ) {M : Mem} {out out′ : List ℕ} (c : CompatibilityMatrix n 
 
 -- ---- cmpnts_mul_pairwise: matrix(left) matrix(right) is i to the phase byte times matrix(out)
 
-module _ (n : ℕ) {L R O O′ : Mem} (wl : Words64 L) (wr : Words64 R) (c : MulPairwise n L R O O′ Done) where
-  no-fault : pairwiseFault n L R O ≡ 0
-  no-fault = done-none (pairwiseFault n L R O) (sym (c .answer))
+module _ (n : ℕ) {L R O O′ : Mem} {cs cs′ : List ℕ} (wl : Words64 L) (wr : Words64 R) (c : MulPairwise n L R O O′ cs cs′ Done) where
+  no-fault : pairwiseFault n L R O (length cs) ≡ 0
+  no-fault = done-none (pairwiseFault n L R O (length cs)) (sym (c .answer))
 
   pub pairwise-rows : (k : ℕ) → k < count L → rowsOf n O′ k ≡ pairRow n (rowsOf n L k) (rowsOf n R k)
   unfolding pairRow rowsIn
   pairwise-rows k h =
       let w = wordsOf n in
       let m = count L in
-      let g = pairwise-asked n O wl wr no-fault in
+      let g = pairwise-asked n O (length cs) wl wr no-fault in
       let v = g .0 .left .valid in
       let l = row-count n w v k h in
       let r = row-count n w (g .0 .right .valid) k (subst (λ (j : ℕ). k < j) (sym (g .1 .same)) h) in
@@ -189,6 +189,22 @@ module _ (n : ℕ) {L R O O′ : Mem} (wl : Words64 L) (wr : Words64 R) (c : Mul
   pairwise-meaning k h =
       subst (λ (x : Row). Same n (times n (matrixOf n (rowsOf n L k)) (matrixOf n (rowsOf n R k))) (rowMatrix n x)) (sym (pairwise-rows k h))
       (pairwise-product n (rowsOf n L k) (rowsOf n R k))
+
+  -- number k is that of the qubits where the rows clash: even exactly when their matrices commute, odd exactly when they anticommute
+  pub pairwise-number : (k : ℕ) → k < count L → getD cs′ k 0 ≡ clashesOf n (rowsOf n L k) (rowsOf n R k)
+  pairwise-number k h =
+      ap (λ (l : List ℕ). getD l k 0) (c .numbers ∙ ap (λ (j : ℕ). leftOr j cs (pairNumbers n L R)) no-fault)
+      ∙ getD-list (count L) (λ k. clashesOf n (rowsOf n L k) (rowsOf n R k)) k 0 h
+
+  pub pairwise-commuted : (k : ℕ) → k < count L → Commute n (rowMatrix n (rowsOf n L k)) (rowMatrix n (rowsOf n R k)) ↔ (getD cs′ k 0 % 2 ≡ 0)
+  pairwise-commuted k h =
+      subst (λ (d : ℕ). Commute n (rowMatrix n (rowsOf n L k)) (rowMatrix n (rowsOf n R k)) ↔ (d % 2 ≡ 0)) (sym (pairwise-number k h))
+      (clashes-even n (rowsOf n L k) (rowsOf n R k))
+
+  pub pairwise-anticommuted : (k : ℕ) → k < count L → Anticommute n (rowMatrix n (rowsOf n L k)) (rowMatrix n (rowsOf n R k)) ↔ (getD cs′ k 0 % 2 ≡ 1)
+  pairwise-anticommuted k h =
+      subst (λ (d : ℕ). Anticommute n (rowMatrix n (rowsOf n L k)) (rowMatrix n (rowsOf n R k)) ↔ (d % 2 ≡ 1)) (sym (pairwise-number k h))
+      (clashes-odd n (rowsOf n L k) (rowsOf n R k))
 
 -- ---- imul_state: the new state is the row's action on the old, and the row's matrix applied to its vector is i to the exponent times the new one's
 

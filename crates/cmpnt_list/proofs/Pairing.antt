@@ -5,24 +5,41 @@ use Prim.Native.Nat.{ℕ, _+_, _-_, _*_, _<_}
 use native.Mathlib.Nat.{ne-of-lt, not-suc-le-zero}
 use borrow.Author.Count.{below-more}
 use lib.ListN.{length, getD, set, length-set}
-use lib.Seq.{getD-set-same, getD-set-other}
+use lib.Seq.{getD-set-same, getD-set-other, ext-getD}
 use Rattle.pauli.specs.Pauli.{hasX, hasZ, mul}
-use Rattle.pauli.specs.Rows.{pairRow}
+use Rattle.pauli.specs.Rows.{clashesOf, pairRow}
 use Rattle.encoding.specs.Limits.{wordsOf}
 use Rattle.encoding.specs.Words.{pack}
-use Rattle.encoding.specs.Set.{row, Mem, mem, count}
+use Rattle.encoding.specs.Set.{row, Mem, mem, count, rowsOf}
+use Rattle.encoding.proofs.Parts.{length-list, getD-list}
 use Rattle.encoding.proofs.Memory.{x-row}
-use Rattle.encoding.proofs.RowWords.{inWords, product-is, phase-is}
+use Rattle.encoding.proofs.RowWords.{inWords, product-is, phase-is, clashes-fit}
 use Rattle.encoding.proofs.Sets.{Holds}
 use Rattle.products.specs.Leaves.{SameLength, ProductAt}
+use Rattle.products.specs.declared.Factor.{Factor}
 use Rattle.products.proofs.PartLaws.{row-other}
-use Rattle.cmpnt_list.specs.Calls.{pairs}
+use Rattle.cmpnt_list.specs.Calls.{pairs, pairNumbers}
 use Rattle.cmpnt_list.specs.Workers.{BothReady, ThirdReady, RowAt}
+
+-- ---- the numbers of clashes, of which r are written
+
+pub record Numbered (n : ℕ) (L R : Mem) (r : ℕ) (cs : List ℕ) : Type 0 where
+  pub long : length cs ≡ count L
+  pub number : (k : ℕ) → k < r → getD cs k 0 ≡ clashesOf n (rowsOf n L k) (rowsOf n R k)
+
+pub numbered-none : (n : ℕ) {L R : Mem} {cs : List ℕ} → length cs ≡ count L → Numbered n L R 0 cs
+numbered-none n e = record { long = e; number = λ k h. absurd (not-suc-le-zero h) }
+
+pub numbered-all : (n : ℕ) {L R : Mem} {r : ℕ} {cs : List ℕ} → r ≡ count L → Numbered n L R r cs → cs ≡ pairNumbers n L R
+numbered-all n {L} {R} {r} {cs} e c =
+    let f : ℕ → ℕ = λ k. clashesOf n (rowsOf n L k) (rowsOf n R k) in
+    ext-getD 0 cs (pairNumbers n L R) (c .long ∙ sym (length-list (count L) f))
+    (λ k h. let i : k < count L = subst (λ (j : ℕ). k < j) (c .long) h in c .number k (subst (λ (j : ℕ). k < j) (sym e) i) ∙ sym (getD-list (count L) f k 0 i))
 
 -- ---- the third set, of which r rows are written
 
 module _ (n : ℕ) {L R : Mem} (b : BothReady n L R) where
-  pub holds-none : {O : Mem} → ThirdReady n (count L) (count R) O → Holds (wordsOf n) (count L) 0 (pairs n L R) O
+  pub holds-none : {O : Mem} {q : ℕ} → ThirdReady n (count L) (count R) q O → Holds (wordsOf n) (count L) 0 (pairs n L R) O
   holds-none t =
       record {
         x-long = t .x-long;
@@ -42,10 +59,22 @@ module _ (n : ℕ) {L R : Mem} (b : BothReady n L R) where
       let right : count R * wordsOf n ≡ length (L .xs) = ap (λ (j : ℕ). j * wordsOf n) e ∙ left in
       record { in-lx = refl; in-lz = l .z-long ∙ left; in-rx = r .x-long ∙ right; in-rz = r .z-long ∙ right; in-ox = h .x-long ∙ left; in-oz = h .z-long ∙ left }
 
-  module _ {ox oz op ox′ oz′ : List ℕ} {r p : ℕ} (hr : r < count L) (hr′ : r < count R) where
+  one-number : {ox oz ox′ oz′ cs : List ℕ} {r : ℕ} {p : Factor} → r < count L → Numbered n L R r cs
+      → ProductAt (r * wordsOf n) (r * wordsOf n + wordsOf n) (L .xs) (L .zs) (R .xs) (R .zs) ox oz ox′ oz′ p → Numbered n L R (r + 1) (set cs r (p .clashes))
+  one-number {ox} {oz} {ox′} {oz′} {cs} {r} {p} hr c q =
+      record {
+        long = length-set cs r (p .clashes) ∙ c .long;
+        number =
+            below-more (λ (k : ℕ). getD (set cs r (p .clashes)) k 0 ≡ clashesOf n (rowsOf n L k) (rowsOf n R k)) r
+            (λ k i. getD-set-other cs r k (p .clashes) 0 (ne-of-lt i) ∙ c .number k i)
+            (getD-set-same cs r (p .clashes) 0 (subst (λ (j : ℕ). r < j) (sym (c .long)) hr)
+            ∙ q .here .factor .number ∙ clashes-fit n (wordsOf n) (b .left .valid) R (b .left .few-qubits) r r hr);
+      }
+
+  module _ {ox oz op ox′ oz′ : List ℕ} {r : ℕ} {p : Factor} (hr : r < count L) (hr′ : r < count R) where
     one-more : Holds (wordsOf n) (count L) r (pairs n L R) (mem ox oz op)
         → ProductAt (r * wordsOf n) (r * wordsOf n + wordsOf n) (L .xs) (L .zs) (R .xs) (R .zs) ox oz ox′ oz′ p
-        → Holds (wordsOf n) (count L) (r + 1) (pairs n L R) (mem ox′ oz′ (set op r p))
+        → Holds (wordsOf n) (count L) (r + 1) (pairs n L R) (mem ox′ oz′ (set op r (p .phase .0)))
     unfolding pairRow
     one-more h q =
         let w = wordsOf n in
@@ -54,7 +83,7 @@ module _ (n : ℕ) {L R : Mem} (b : BothReady n L R) where
         record {
           x-long = q .x-rest .long ∙ h .x-long;
           z-long = q .z-rest .long ∙ h .z-long;
-          p-long = length-set op r p ∙ h .p-long;
+          p-long = length-set op r (p .phase .0) ∙ h .p-long;
           x-row =
               below-more (λ (k : ℕ). row w k ox′ ≡ pack hasX w (pairs n L R k .ps)) r
               (λ k i. row-other w k r (q .x-rest) (ne-of-lt i) ∙ h .x-row k i)
@@ -64,15 +93,16 @@ module _ (n : ℕ) {L R : Mem} (b : BothReady n L R) where
               (λ k i. row-other w k r (q .z-rest) (ne-of-lt i) ∙ h .z-row k i)
               (q .here .z-words ∙ ap (λ (j : ℕ). pack hasZ j (mul (inWords w L r) (inWords w R r))) long ∙ product-is n w l R (b .right .valid) hasZ refl r r hr hr′);
           byte =
-              below-more (λ (k : ℕ). getD (set op r p) k 0 ≡ pairs n L R k .p) r
-              (λ k i. getD-set-other op r k p 0 (ne-of-lt i) ∙ h .byte k i)
-              (getD-set-same op r p 0 (subst (λ (j : ℕ). r < j) (sym (h .p-long)) hr) ∙ q .here .exponent ∙ phase-is n w l R r r hr);
+              below-more (λ (k : ℕ). getD (set op r (p .phase .0)) k 0 ≡ pairs n L R k .p) r
+              (λ k i. getD-set-other op r k (p .phase .0) 0 (ne-of-lt i) ∙ h .byte k i)
+              (getD-set-same op r (p .phase .0) 0 (subst (λ (j : ℕ). r < j) (sym (h .p-long)) hr) ∙ q .here .factor .exponent ∙ phase-is n w l R r r hr);
         }
 
-    pub holds-more : {m a e : ℕ} → RowAt r (wordsOf n) m a e → Holds (wordsOf n) (count L) r (pairs n L R) (mem ox oz op)
+    pub holds-more : {m a e : ℕ} {cs : List ℕ} → RowAt r (wordsOf n) m a e → Holds (wordsOf n) (count L) r (pairs n L R) (mem ox oz op) → Numbered n L R r cs
         → ProductAt a e (L .xs) (L .zs) (R .xs) (R .zs) ox oz ox′ oz′ p
-        → Holds (wordsOf n) (count L) (r + 1) (pairs n L R) (mem ox′ oz′ (set op r p))
-    holds-more {m} {a} {e} at h q =
-        one-more h
-        (subst (λ (i : ℕ). ProductAt i (r * wordsOf n + wordsOf n) (L .xs) (L .zs) (R .xs) (R .zs) ox oz ox′ oz′ p) (at .from)
-        (subst (λ (j : ℕ). ProductAt a j (L .xs) (L .zs) (R .xs) (R .zs) ox oz ox′ oz′ p) (at .to) q))
+        → Holds (wordsOf n) (count L) (r + 1) (pairs n L R) (mem ox′ oz′ (set op r (p .phase .0))) × Numbered n L R (r + 1) (set cs r (p .clashes))
+    holds-more {m} {a} {e} at h c q =
+        let q′ : ProductAt (r * wordsOf n) (r * wordsOf n + wordsOf n) (L .xs) (L .zs) (R .xs) (R .zs) ox oz ox′ oz′ p =
+        subst (λ (i : ℕ). ProductAt i (r * wordsOf n + wordsOf n) (L .xs) (L .zs) (R .xs) (R .zs) ox oz ox′ oz′ p) (at .from)
+        (subst (λ (j : ℕ). ProductAt a j (L .xs) (L .zs) (R .xs) (R .zs) ox oz ox′ oz′ p) (at .to) q) in
+        (one-more h q′, one-number hr c q′)

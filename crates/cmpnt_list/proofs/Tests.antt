@@ -6,13 +6,13 @@ use borrow.Author.Tests.{leb-false, lt-ltb, le-ltb, eqb-true, not-false}
 use lib.Dec.{eqb, leb}
 use Rattle.encoding.specs.Limits.{maxRows, wordsOf}
 use Rattle.encoding.specs.Set.{Mem, count, Valid}
-use Rattle.encoding.specs.Refusals.{faultFrom, fault, joined, least, setTests, outTests, numberTests, differentRows}
-use Rattle.encoding.proofs.Faults.{no-test, joined-fault, both-parts, least-none, not-large, number-is, different-is, same-rows}
+use Rattle.encoding.specs.Refusals.{faultFrom, fault, joined, least, setTests, outTests, numberTests}
+use Rattle.encoding.proofs.Faults.{no-test, joined-fault, both-parts, least-none, not-large, number-is}
 use Rattle.encoding.proofs.WordLaws.{Fit}
 use Rattle.encoding.proofs.Memory.{valid-of}
 use Rattle.encoding.proofs.Sets.{sound-of, shape-of}
 use Rattle.encoding.proofs.Scan.{none-of}
-use Rattle.cmpnt_list.specs.Calls.{readFault, pairwiseFault, matrixTests}
+use Rattle.cmpnt_list.specs.Calls.{readFault, otherLengths, pairwiseFault, matrixTests}
 use Rattle.cmpnt_list.specs.Workers.{Asked, AskedMatrix, BothReady, ThirdReady}
 
 -- ---- a set that is read, and numbers
@@ -65,23 +65,31 @@ both-ready n L R {f} {a} {b} ea eb ef v u z =
     let p = least-none a b (sym ef ∙ z) in
     record { left = sound-of n L ea v (p .0); right = sound-of n R eb u (p .1) }
 
-pub third-ready : (n m k : ℕ) (O : Mem) {f a b : ℕ} → a ≡ cond (not (eqb k m)) 3 0 → b ≡ fault (outTests n m O) → f ≡ least a b → f ≡ 0 → ThirdReady n m k O
-third-ready n m k O {f} {a} {b} ea eb ef z =
+pub lengths-is : (m k q : ℕ) → cond (not (eqb k m) || not (eqb q m)) 3 0 ≡ fault (otherLengths m k q)
+unfolding faultFrom
+lengths-is m k q = refl
+
+pub third-ready : (n m k q : ℕ) (O : Mem) {f a b : ℕ} → a ≡ cond (not (eqb k m) || not (eqb q m)) 3 0 → b ≡ fault (outTests n m O) → f ≡ least a b → f ≡ 0
+    → ThirdReady n m k q O
+third-ready n m k q O {f} {a} {b} ea eb ef z =
     let p = least-none a b (sym ef ∙ z) in
     let s = shape-of n m O (sym eb ∙ p .1) in
+    let l = none-of (not (eqb k m)) (not (eqb q m)) (not-large 2 (not (eqb k m) || not (eqb q m)) (sym ea ∙ p .0)) in
     record {
-      same = same-rows m k (sym (different-is m k) ∙ sym ea ∙ p .0);
+      same = eqb-true k m (not-false _ (l .0));
+      numbers = eqb-true q m (not-false _ (l .1));
       rows = s .rows;
       x-long = s .x-long ∙ ap (λ (j : ℕ). j * wordsOf n) (s .rows);
       z-long = s .z-long ∙ ap (λ (j : ℕ). j * wordsOf n) (s .rows);
     }
 
-pub pairwise-asked : (n : ℕ) {L R : Mem} (O : Mem) → Words64 L → Words64 R → pairwiseFault n L R O ≡ 0 → BothReady n L R × ThirdReady n (count L) (count R) O
-pairwise-asked n {L} {R} O f g z =
+pub pairwise-asked : (n : ℕ) {L R : Mem} (O : Mem) (q : ℕ) → Words64 L → Words64 R → pairwiseFault n L R O q ≡ 0
+    → BothReady n L R × ThirdReady n (count L) (count R) q O
+pairwise-asked n {L} {R} O q f g z =
     let ts = joined (setTests n L) (setTests n R) in
-    let us = joined (differentRows (count L) (count R)) (outTests n (count L) O) in
+    let us = joined (otherLengths (count L) (count R) q) (outTests n (count L) O) in
     let p = least-none (fault ts) (fault us) (joined-fault ts us ∙ z) in (
       both-ready n L R refl refl (sym (joined-fault (setTests n L) (setTests n R))) (valid-of n L (f .x-fit) (f .z-fit)) (valid-of n R (g .x-fit) (g .z-fit)) (p .0),
-      third-ready n (count L) (count R) O refl refl
-          (sym (joined-fault (differentRows (count L) (count R)) (outTests n (count L) O)) ∙ ap (λ (k : ℕ). least k (fault (outTests n (count L) O))) (sym (different-is (count L) (count R)))) (p .1),
+      third-ready n (count L) (count R) q O refl refl
+          (sym (joined-fault (otherLengths (count L) (count R) q) (outTests n (count L) O)) ∙ ap (λ (k : ℕ). least k (fault (outTests n (count L) O))) (sym (lengths-is (count L) (count R) q))) (p .1),
     )

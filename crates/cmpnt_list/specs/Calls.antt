@@ -9,11 +9,11 @@ use lib.ListN.{length, getD}
 use Rattle.pauli.specs.Pauli.{Pauli}
 use Rattle.pauli.specs.declared.PauliMatrix.the-variants.{I}
 use Rattle.pauli.specs.Row.{Row}
-use Rattle.pauli.specs.Rows.{phaseOf, commute, central, countOf, pairRow, withQubit, actOn, actPhaseOn}
+use Rattle.pauli.specs.Rows.{phaseOf, clashesOf, commute, central, countOf, pairRow, withQubit, actOn, actPhaseOn}
 use Rattle.encoding.specs.Limits.{wordsOf}
 use Rattle.encoding.specs.Words.{layRows}
 use Rattle.encoding.specs.Set.{Mem, count, rowsOf, list, lay, stateOf, layState}
-use Rattle.encoding.specs.Refusals.{fault, joined, manyRows, setTests, outTests, differentRows, stateTests, tooLarge, readTests, rowTests, rowsTests, doneOr, leftOr}
+use Rattle.encoding.specs.Refusals.{fault, joined, manyRows, setTests, outTests, stateTests, tooLarge, readTests, rowTests, rowsTests, doneOr, leftOr}
 use Rattle.encoding.specs.declared.Answer.{Answer}
 use Rattle.cmpnt_list.specs.declared.Got.{Got}
 use Rattle.cmpnt_list.specs.declared.Got.the-variants as got
@@ -104,17 +104,25 @@ pub record CompatibilityMatrix (n : ℕ) (M : Mem) (out out′ : List ℕ) (a : 
   pub answer : a ≡ doneOr (matrixFault n M (length out))
   pub matrix : out′ ≡ leftOr (matrixFault n M (length out)) out (laidMatrix (count M) (commuting n M))
 
--- ---- cmpnts_mul_pairwise: row i of the third set is left i times right i, its phase byte phase(left i, right i)
+-- ---- cmpnts_mul_pairwise: row i of the third set is left i times right i, its phase byte phase(left i, right i), and number i that of the clashes
 
-abbrev pub pairwiseFault : ℕ → Mem → Mem → Mem → ℕ
-pairwiseFault n L R O = fault (joined (joined (setTests n L) (setTests n R)) (joined (differentRows (count L) (count R)) (outTests n (count L) O)))
+-- 3: the right set has k rows, or the lent numbers are q, not m
+abbrev pub otherLengths : ℕ → ℕ → ℕ → List Bool
+otherLengths m k q = false ∷ false ∷ (not (eqb k m) || not (eqb q m)) ∷ []
+
+abbrev pub pairwiseFault : ℕ → Mem → Mem → Mem → ℕ → ℕ
+pairwiseFault n L R O q = fault (joined (joined (setTests n L) (setTests n R)) (joined (otherLengths (count L) (count R) q) (outTests n (count L) O)))
 
 abbrev pub pairs : ℕ → Mem → Mem → ℕ → Row
 pairs n L R k = pairRow n (rowsOf n L k) (rowsOf n R k)
 
-pub record MulPairwise (n : ℕ) (L R O O′ : Mem) (a : Answer) : Type 0 where
-  pub answer : a ≡ doneOr (pairwiseFault n L R O)
-  pub rows : O′ ≡ leftOr (pairwiseFault n L R O) O (lay n (count L) (pairs n L R))
+abbrev pub pairNumbers : ℕ → Mem → Mem → List ℕ
+pairNumbers n L R = list (count L) (λ k. clashesOf n (rowsOf n L k) (rowsOf n R k))
+
+pub record MulPairwise (n : ℕ) (L R O O′ : Mem) (cs cs′ : List ℕ) (a : Answer) : Type 0 where
+  pub answer : a ≡ doneOr (pairwiseFault n L R O (length cs))
+  pub rows : O′ ≡ leftOr (pairwiseFault n L R O (length cs)) O (lay n (count L) (pairs n L R))
+  pub numbers : cs′ ≡ leftOr (pairwiseFault n L R O (length cs)) cs (pairNumbers n L R)
 
 -- ---- imul_state: row r acts on a lent basis state of w words
 

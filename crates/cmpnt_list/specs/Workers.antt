@@ -24,13 +24,14 @@ pub record AskedMatrix (n : ℕ) (M : Mem) (size : ℕ) : Type 0 where
   pub ready : Sound n M
   pub fits : size ≡ count M * wordsOf (count M)
 
--- the same of the three sets of a pairwise product: a left one of m rows, a right one of k
+-- the same of the three sets of a pairwise product: a left one of m rows, a right one of k, and q lent numbers
 pub record BothReady (n : ℕ) (L R : Mem) : Type 0 where
   pub left : Sound n L
   pub right : Sound n R
 
-pub record ThirdReady (n m k : ℕ) (O : Mem) : Type 0 where
+pub record ThirdReady (n m k q : ℕ) (O : Mem) : Type 0 where
   pub same : k ≡ m
+  pub numbers : q ≡ m
   pub rows : count O ≡ m
   pub x-long : length (O .xs) ≡ m * wordsOf n
   pub z-long : length (O .zs) ≡ m * wordsOf n

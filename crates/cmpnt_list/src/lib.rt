@@ -8,15 +8,16 @@ ghost use Rattle.pauli.specs.Rows.{phaseOf, commute, central, countOf, withQubi
 ghost use Rattle.encoding.specs.Limits.{maxQubits, maxRows, maxWords, wordsOf};
 ghost use Rattle.encoding.specs.Words.{word, unpack};
 ghost use Rattle.encoding.specs.Set.{mem, rowsOf, lay, Sound};
-ghost use Rattle.encoding.specs.Refusals.{fault, joined, setTests, outTests, stateTests, differentRows};
+ghost use Rattle.encoding.specs.Refusals.{fault, joined, setTests, outTests, stateTests};
 ghost use Rattle.products.specs.Leaves.{SameLength, ProductAt};
-ghost use Rattle.cmpnt_list.specs.Calls.{readFault, matrixTests, matrixFault, laidMatrix, commuting, pairs, getQubit, SetQubit, countIn, phaseOfMul, commutesWith, belongsToCentralizer, CompatibilityMatrix, MulPairwise, ImulState};
+ghost use Rattle.cmpnt_list.specs.Calls.{readFault, matrixTests, matrixFault, laidMatrix, commuting, otherLengths, pairs, pairNumbers, getQubit, SetQubit, countIn, phaseOfMul, commutesWith, belongsToCentralizer, CompatibilityMatrix, MulPairwise, ImulState};
 ghost use Rattle.cmpnt_list.specs.Workers.{Asked, AskedMatrix, BothReady, ThirdReady, RowAt, masked, fromMasks, Filled, Marked, Zeros, StateActed};
 use encoding::Answer;
 use pauli::ComplexSign;
 use pauli::PauliMatrix;
 use pauli::QubitNumber;
 use pauli::RowNumber;
+use products::Factor;
 
 // What reading a qubit answers.
 pub enum Got {
@@ -238,7 +239,8 @@ fn phase_rows(n: usize, x: &[u64], z: &[u64], phases: &[u8], a: usize, b: usize)
     let le = s.1;
     let ra = t.0;
     let re = t.1;
-    products::mul_op_op_phase(&x[la..le], &z[la..le], &x[ra..re], &z[ra..re])
+    let f = products::mul_op_op_phase(&x[la..le], &z[la..le], &x[ra..re], &z[ra..re]);
+    f.phase
 }
 
 // The exponent of the product of two rows, without the rows' own.
@@ -453,13 +455,15 @@ fn both_fault(n: usize, lx: &[u64], lz: &[u64], lp: &[u8], rx: &[u64], rz: &[u64
     )
 }
 
-// The first number that fits a left set of m rows, a right one of k, and a third that is written, or 0.
-fn third_fault(n: usize, m: usize, k: usize, ox: &[u64], oz: &[u64], op: &[u8]) -> u8
-    ensures { λ r. ⌜ r ≡ fault (joined (differentRows m k) (outTests n m (mem (now (ox .entry)) (now (oz .entry)) (now (op .entry))))) ⌝ }
-    ensures none { λ r. ⌜ (r ≡ 0 → ThirdReady n m k (mem (now (ox .entry)) (now (oz .entry)) (now (op .entry)))) ⌝ }
+// The first number that fits a left set of m rows, a right one of k, q lent numbers, and a third set that is written, or 0.
+fn third_fault(n: usize, m: usize, k: usize, q: usize, ox: &[u64], oz: &[u64], op: &[u8]) -> u8
+    ensures { λ r. ⌜ r ≡ fault (joined (otherLengths m k q) (outTests n m (mem (now (ox .entry)) (now (oz .entry)) (now (op .entry))))) ⌝ }
+    ensures none { λ r. ⌜ (r ≡ 0 → ThirdReady n m k q (mem (now (ox .entry)) (now (oz .entry)) (now (op .entry)))) ⌝ }
 {
+    let a = k != m;
+    let b = q != m;
     encoding::smaller(
-        encoding::pick(k != m, 3, 0),
+        encoding::pick(a | b, 3, 0),
         encoding::out_fault(n, m, ox, oz, op),
     )
 }
@@ -474,10 +478,10 @@ fn mul_part(
     rz: &[u64],
     ox: &mut [u64],
     oz: &mut [u64],
-) -> ComplexSign
+) -> Factor
     requires { ⌜ (a ≤ e) × (e ≤ length (now lx)) ⌝ }
     requires { ⌜ SameLength (length (now lx)) (now lx) (now lz) (now rx) (now rz) (now ox) (now oz) ⌝ }
-    ensures { λ r. ⌜ ProductAt a e (now (lx .entry)) (now (lz .entry)) (now (rx .entry)) (now (rz .entry)) (now (ox .entry)) (now (oz .entry)) (now (ox .exit)) (now (oz .exit)) (r .0) ⌝ }
+    ensures { λ r. ⌜ ProductAt a e (now (lx .entry)) (now (lz .entry)) (now (rx .entry)) (now (rz .entry)) (now (ox .entry)) (now (oz .entry)) (now (ox .exit)) (now (oz .exit)) r ⌝ }
 {
     products::mul_op_op(
         &lx[a..e],
@@ -489,7 +493,7 @@ fn mul_part(
     )
 }
 
-// Row by row, left times right is written into the third set, and the exponent into its phase byte.
+// Row by row, left times right is written into the third set, the exponent into its phase byte, and the number of clashes.
 fn mul_rows(
     n: usize,
     lx: &[u64],
@@ -501,10 +505,11 @@ fn mul_rows(
     ox: &mut [u64],
     oz: &mut [u64],
     op: &mut [u8],
+    clashes: &mut [u16],
 )
     requires { ⌜ BothReady n (mem (now lx) (now lz) (now lp)) (mem (now rx) (now rz) (now rp)) ⌝ }
-    requires { ⌜ ThirdReady n (length (now lp)) (length (now rp)) (mem (now ox) (now oz) (now op)) ⌝ }
-    ensures { λ _. ⌜ mem (now (ox .exit)) (now (oz .exit)) (now (op .exit)) ≡ lay n (length (now (lp .entry))) (pairs n (mem (now (lx .entry)) (now (lz .entry)) (now (lp .entry))) (mem (now (rx .entry)) (now (rz .entry)) (now (rp .entry)))) ⌝ }
+    requires { ⌜ ThirdReady n (length (now lp)) (length (now rp)) (length (now clashes)) (mem (now ox) (now oz) (now op)) ⌝ }
+    ensures { λ _. ⌜ (mem (now (ox .exit)) (now (oz .exit)) (now (op .exit)) ≡ lay n (length (now (lp .entry))) (pairs n (mem (now (lx .entry)) (now (lz .entry)) (now (lp .entry))) (mem (now (rx .entry)) (now (rz .entry)) (now (rp .entry))))) × (now (clashes .exit) ≡ pairNumbers n (mem (now (lx .entry)) (now (lz .entry)) (now (lp .entry))) (mem (now (rx .entry)) (now (rz .entry)) (now (rp .entry)))) ⌝ }
 {
     let m = op.len();
     let mut r = 0;
@@ -513,12 +518,15 @@ fn mul_rows(
         let a = s.0;
         let e = s.1;
         let p = mul_part(a, e, lx, lz, rx, rz, ox, oz);
-        op[r] = p.0;
+        let i = p.phase;
+        op[r] = i.0;
+        clashes[r] = p.clashes;
         r += 1;
     }
 }
 
 // Each row of the left set times the same row of the right goes into a third set; its phase byte is the exponent of the product.
+// The number of qubits that hold differing Paulis other than I is given for each row.
 pub fn cmpnts_mul_pairwise(
     n: usize,
     lx: &[u64],
@@ -530,17 +538,18 @@ pub fn cmpnts_mul_pairwise(
     ox: &mut [u64],
     oz: &mut [u64],
     op: &mut [u8],
+    clashes: &mut [u16],
 ) -> Answer
-    ensures { λ a. ⌜ MulPairwise n (mem (now (lx .entry)) (now (lz .entry)) (now (lp .entry))) (mem (now (rx .entry)) (now (rz .entry)) (now (rp .entry))) (mem (now (ox .entry)) (now (oz .entry)) (now (op .entry))) (mem (now (ox .exit)) (now (oz .exit)) (now (op .exit))) a ⌝ }
+    ensures { λ a. ⌜ MulPairwise n (mem (now (lx .entry)) (now (lz .entry)) (now (lp .entry))) (mem (now (rx .entry)) (now (rz .entry)) (now (rp .entry))) (mem (now (ox .entry)) (now (oz .entry)) (now (op .entry))) (mem (now (ox .exit)) (now (oz .exit)) (now (op .exit))) (now (clashes .entry)) (now (clashes .exit)) a ⌝ }
 {
     let f = encoding::smaller(
         both_fault(n, lx, lz, lp, rx, rz, rp),
-        third_fault(n, lp.len(), rp.len(), ox, oz, op),
+        third_fault(n, lp.len(), rp.len(), clashes.len(), ox, oz, op),
     );
     if f != 0 {
         return Answer::Refused(f);
     }
-    mul_rows(n, lx, lz, lp, rx, rz, rp, ox, oz, op);
+    mul_rows(n, lx, lz, lp, rx, rz, rp, ox, oz, op, clashes);
     Answer::Done
 }
 

@@ -3,7 +3,7 @@
 use mathlib.Core.Path.{_≡_, refl, sym, ap, ap₂, _∙_}
 use mathlib.Core.Bool.{Bool, false}
 use mathlib.Core.List.{List}
-use Prim.Native.Nat.{ℕ, _%_, _<_}
+use Prim.Native.Nat.{ℕ, _%_, _≤_, _<_}
 use native.Mathlib.Omega.{arith}
 use lib.Dec.{eqb}
 use lib.ListN.{getD, take}
@@ -11,9 +11,11 @@ use lib.Seq.{take-take, getD-take}
 use Rattle.pauli.specs.Pauli.{Pauli, total, _·_, mul, phase, phases, clash, clashes}
 use Rattle.pauli.specs.declared.PauliMatrix.the-variants.{I}
 use Rattle.pauli.specs.Row.{padMul}
-use Rattle.pauli.specs.Rows.{phaseOf, commute}
+use Rattle.pauli.specs.Rows.{phaseOf, clashesOf, commute}
 use Rattle.pauli.proofs.Lists.{each-take}
 use Rattle.pauli.proofs.RowLaws.{pad-mul}
+use Rattle.pauli.proofs.RowTests.{clashes-le}
+use Rattle.encoding.specs.Limits.{maxQubits}
 use Rattle.encoding.specs.Words.{unpack, pack}
 use Rattle.encoding.specs.Set.{row, Mem, count, rowsIn, Valid}
 use Rattle.encoding.proofs.Padding.{pack-cut, each-only, total-take}
@@ -40,9 +42,21 @@ module _ (n w : ℕ) {M : Mem} (v : Valid n w M) (N : Mem) where
   pub phase-is : (a b : ℕ) → a < count M → phases (inWords w M a) (inWords w N b) % 4 ≡ phaseOf n (rowsIn n w M a) (rowsIn n w N b)
   phase-is a b h = ap (λ (k : ℕ). k % 4) (row-total phase (λ q. refl) a b h)
 
+  pub clashes-is : (a b : ℕ) → a < count M → clashes (inWords w M a) (inWords w N b) ≡ clashesOf n (rowsIn n w M a) (rowsIn n w N b)
+  clashes-is a b h = row-total clash (λ q. refl) a b h
+
+  -- within the limits the number fits 16 bits
+  pub clashes-fit : n ≤ maxQubits → (a b : ℕ) → a < count M → clashes (inWords w M a) (inWords w N b) % 65536 ≡ clashesOf n (rowsIn n w M a) (rowsIn n w N b)
+  clashes-fit l a b h =
+      let le = clashes-le n (rowsIn n w M a .ps) (rowsIn n w N b .ps) in
+      ap (λ (k : ℕ). k % 65536) (clashes-is a b h) ∙ small (clashesOf n (rowsIn n w M a) (rowsIn n w N b)) (omega arith)
+    where
+      small : (k : ℕ) → k ≤ maxQubits → k % 65536 ≡ k
+      small k l = omega arith
+
   pub commute-is : (a b : ℕ) → a < count M → eqb (clashes (inWords w M a) (inWords w N b) % 2) 0 ≡ commute n (rowsIn n w M a) (rowsIn n w N b)
   unfolding commute
-  commute-is a b h = ap (λ (k : ℕ). eqb (k % 2) 0) (row-total clash (λ q. refl) a b h)
+  commute-is a b h = ap (λ (k : ℕ). eqb (k % 2) 0) (clashes-is a b h)
 
   -- the product of two rows, packed
   pub product-is : Valid n w N → (f : Pauli → Bool) → f I ≡ false → (a b : ℕ) → a < count M → b < count N

@@ -15,6 +15,11 @@ pub record Logged : Type 0 where
   pub rows : Mem
   pub log : List ℕ
 
+-- rows and numbers
+pub record Paired : Type 0 where
+  pub rows : Mem
+  pub numbers : List ℕ
+
 -- a call was made on what a line filled: it left B there and answered A, as its contract says, and the line of both was written
 pub record Answered {B A : Type 0} (Call : B → A → Type 0) (answer : B → A → List Field) (s : List ℕ) (at : ℕ) (t : List ℕ) (r : ℕ) : Type 0 where
   pub left : B

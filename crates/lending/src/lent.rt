@@ -1,8 +1,8 @@
 // Calls on a set and something else that is lent to be changed.
 ghost use lib.ListN.{take};
 ghost use Rattle.cmpnt_list.specs.Calls.{SetQubit, CompatibilityMatrix, MulPairwise, ImulState};
-ghost use Rattle.answers.specs.Answers.{changedLine, actLine, matrixLine};
-ghost use Rattle.lending.specs.Parts.{setOf, Answered};
+ghost use Rattle.answers.specs.Answers.{changedLine, pairLine, actLine, matrixLine};
+ghost use Rattle.lending.specs.Parts.{setOf, Paired, Answered};
 use crate::part::clip;
 use linein::first_bytes;
 use linein::first_words;
@@ -103,8 +103,9 @@ pub fn pairwise(
     x: &mut [u64],
     z: &mut [u64],
     p: &mut [u8],
+    clashes: &mut [u16],
 ) -> usize
-    ensures { λ r. ⌜ Answered (MulPairwise (q .l .n) (setOf (q .l .x) (q .l .z) (q .l .p) (now (lx .entry)) (now (lz .entry)) (now (lp .entry))) (setOf (q .r .x) (q .r .z) (q .r .p) (now (rx .entry)) (now (rz .entry)) (now (rp .entry))) (setOf (q .o .x) (q .o .z) (q .o .p) (now (x .entry)) (now (z .entry)) (now (p .entry)))) (λ t a. changedLine a (t .xs) (t .zs) (t .es)) (now (out .entry)) at (now (out .exit)) r ⌝ }
+    ensures { λ r. ⌜ Answered {B = Paired} (λ t a. MulPairwise (q .l .n) (setOf (q .l .x) (q .l .z) (q .l .p) (now (lx .entry)) (now (lz .entry)) (now (lp .entry))) (setOf (q .r .x) (q .r .z) (q .r .p) (now (rx .entry)) (now (rz .entry)) (now (rp .entry))) (setOf (q .o .x) (q .o .z) (q .o .p) (now (x .entry)) (now (z .entry)) (now (p .entry))) (t .rows) (take (q .k) (now (clashes .entry))) (t .numbers) a) (λ t a. pairLine a (t .rows .xs) (t .rows .zs) (t .rows .es) (t .numbers)) (now (out .entry)) at (now (out .exit)) r ⌝ }
 {
     let l = q.l;
     let r = q.r;
@@ -112,6 +113,7 @@ pub fn pairwise(
     let i = clip(o.x, x.len());
     let j = clip(o.z, z.len());
     let k = clip(o.p, p.len());
+    let h = clip(q.k, clashes.len());
     replies::pairwise(
         out,
         at,
@@ -125,5 +127,6 @@ pub fn pairwise(
         &mut x[0..i],
         &mut z[0..j],
         &mut p[0..k],
+        &mut clashes[0..h],
     )
 }

@@ -3,7 +3,7 @@ ghost use Rattle.pauli.specs.declared.PauliMatrix.the-variants.{I, X, Y, Z};
 ghost use Rattle.cmpnt_list.specs.Calls.{getQubit, countIn, phaseOfMul, commutesWith, belongsToCentralizer};
 ghost use Rattle.lineout.specs.Writing.{Said};
 ghost use Rattle.answers.specs.Fields.{Line};
-ghost use Rattle.answers.specs.Answers.{changedLine, gotLine, countLine, phaseLine, truthLine};
+ghost use Rattle.answers.specs.Answers.{productLine, gotLine, countLine, phaseLine, truthLine};
 ghost use Rattle.terms.specs.Calls.{Multiplies};
 ghost use Rattle.lending.specs.Parts.{setOf, Answered};
 use crate::part::clip;
@@ -122,7 +122,7 @@ pub fn multiply(
     z: &mut [u64],
     p: &mut [u8],
 ) -> usize
-    ensures { λ r. ⌜ Answered (Multiplies (q .l .n) (q .a) (q .b) (setOf (q .l .x) (q .l .z) (q .l .p) (now (x .entry)) (now (z .entry)) (now (p .entry)))) (λ t a. changedLine a (t .xs) (t .zs) (t .es)) (now (out .entry)) at (now (out .exit)) r ⌝ }
+    ensures { λ r. ⌜ Answered (Multiplies (q .l .n) (q .a) (q .b) (setOf (q .l .x) (q .l .z) (q .l .p) (now (x .entry)) (now (z .entry)) (now (p .entry)))) (λ t a. productLine a (t .xs) (t .zs) (t .es)) (now (out .entry)) at (now (out .exit)) r ⌝ }
 {
     let l = q.l;
     let i = clip(l.x, x.len());

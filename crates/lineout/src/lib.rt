@@ -8,6 +8,7 @@ ghost use mathlib.Core.List.{[], _∷_};
 ghost use Rattle.lineout.specs.Writing.{Wrote};
 use libc::STDOUT_FILENO;
 pub use list::bytes;
+pub use list::halves;
 pub use list::pairs;
 pub use list::words;
 pub use number::decimal;

@@ -68,6 +68,19 @@ fn wide16(b: u16) -> u64
     b as u64
 }
 
+pub fn halves(out: &mut [u8; ROOM], at: usize, xs: &[u16]) -> usize
+    ensures { λ r. ⌜ Said (Listing (λ i. Numeral 10 1 (getD (now (xs .entry)) i 0)) (length (now (xs .entry)))) (now (out .entry)) at (now (out .exit)) r ⌝ }
+{
+    let mut at = or_none(out, at, xs.len());
+    let mut i = 0;
+    while i < xs.len() {
+        at = between(out, at, i);
+        at = decimal(out, at, wide16(xs[i]));
+        i += 1;
+    }
+    at
+}
+
 // The pair a:b.
 fn pair(out: &mut [u8; ROOM], at: usize, a: u16, b: u16) -> usize
     ensures { λ r. ⌜ Said (Pair a b) (now (out .entry)) at (now (out .exit)) r ⌝ }

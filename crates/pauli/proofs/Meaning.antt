@@ -6,12 +6,12 @@ use mathlib.Core.Bool.{Bool, true, false}
 use mathlib.Core.List.{List, [], _∷_}
 use Prim.Native.Nat.{ℕ, zero, suc, _+_, _*_, _%_, _<_}
 use native.Mathlib.Omega.{arith}
-use borrow.Author.Tests.{eqb-true, eqb-false}
+use borrow.Author.Tests.{eqb-true, eqb-false, eq-eqb, ne-eqb}
 use lib.ListN.{length, take, replicate, length-replicate}
 use Rattle.pauli.specs.Gauss.{Gauss, _⊕_, _⊗_, minus, g0, ipow}
 use Rattle.pauli.specs.Pauli.{Pauli, I, X, Y, Z, _·_, phase, mul, phases, turn, act, actPhase, clashes}
 use Rattle.pauli.specs.Row.{Row, padMul, expo, mulRow, bitRow}
-use Rattle.pauli.specs.Rows.{phaseOf, commute, central, holding, countOf, pairRow, actOn, actPhaseOn}
+use Rattle.pauli.specs.Rows.{phaseOf, clashesOf, commute, central, holding, countOf, pairRow, actOn, actPhaseOn}
 use Rattle.pauli.specs.Matrix.{entry, matrix, times, scaled, Same, Commute, Anticommute, onQubits, matrixOf, rowMatrix, basis, apply}
 use Rattle.pauli.proofs.Bools.{xor-same}
 use Rattle.pauli.proofs.Every.{every-at, every-all}
@@ -242,6 +242,22 @@ module _ (n : ℕ) (a b : Row) where
       pick : (t : Bool) → commute n a b ≡ t → Anticommute n (rowMatrix n a) (rowMatrix n b) → commute n a b ≡ false
       pick true e f = absurd (both (commuting e) f)
       pick false e f = e
+
+  -- THE NUMBER OF CLASHES is even exactly when the matrices commute, and odd exactly when they anticommute
+  pub clashes-even : Commute n (rowMatrix n a) (rowMatrix n b) ↔ (clashesOf n a b % 2 ≡ 0)
+  unfolding commute
+  clashes-even = (λ f. eqb-true (clashesOf n a b % 2) 0 (commute-iff .0 f), λ e. commuting (eq-eqb (clashesOf n a b % 2) 0 e))
+
+  pub clashes-odd : Anticommute n (rowMatrix n a) (rowMatrix n b) ↔ (clashesOf n a b % 2 ≡ 1)
+  unfolding commute
+  clashes-odd =
+      (λ f. left (clashesOf n a b) (eqb-false (clashesOf n a b % 2) 0 (anticommute-iff .0 f)), λ e. anticommuting (ne-eqb (clashesOf n a b % 2) 0 (other e)))
+    where
+      left : (d : ℕ) → (d % 2 ≡ 0 → ⊥) → d % 2 ≡ 1
+      left d h = omega arith
+
+      other : {k : ℕ} → k ≡ 1 → k ≡ 0 → ⊥
+      other e z = omega arith
 
 -- ---- central rows
 

@@ -2,14 +2,14 @@
 use mathlib.Core.Path.{_≡_, refl, sym, ap, ap₂, _∙_, subst}
 use mathlib.Core.Bool.{true, Bool·beq}
 use mathlib.Core.List.{List, [], _∷_}
-use Prim.Native.Nat.{ℕ, zero, suc, _+_, _%_, _<_}
+use Prim.Native.Nat.{ℕ, zero, suc, _+_, _%_, _≤_, _<_, zero-le}
 use native.Mathlib.Decide.{ℕ-discrete}
 use native.Mathlib.Omega.{arith}
-use lib.Dec.{eqb, eqb→eq}
+use lib.Dec.{eqb, eqb→eq, leb, leb→le}
 use lib.ListN.{getD, take}
 use Rattle.pauli.specs.Pauli.{Pauli, I, ofBits, hasX, hasZ, clash, clashes}
 use Rattle.pauli.specs.Row.{Row, eqP, sameQubits}
-use Rattle.pauli.specs.Rows.{commute}
+use Rattle.pauli.specs.Rows.{clashesOf, commute}
 use Rattle.pauli.proofs.Bools.{and-left, and-right, and-both, beq→, beq-same}
 use Rattle.pauli.proofs.Every.{everyP, atP}
 use Rattle.pauli.proofs.RowLaws.{both-of}
@@ -36,6 +36,27 @@ pub →qubits : (n : ℕ) (a b : List Pauli) → ((k : ℕ) → k < n → getD a
 unfolding sameQubits
 →qubits zero a b f = refl
 →qubits (suc n) a b f = and-both (→qubits n a b (λ k h. f k (omega arith))) (→eqP (getD a n I) (getD b n I) (f n (omega arith)))
+
+-- ---- clashes: at most one a qubit, and none of a row with itself
+
+clash-le : (p q : Pauli) → clash p q ≤ 1
+clash-le p q = leb→le (clash p q) 1 (atP (λ q. leb (clash p q) 1) (atP (λ p. everyP (λ q. leb (clash p q) 1)) tt p) q)
+
+pub clashes-le : (n : ℕ) (a b : List Pauli) → clashes (take n a) (take n b) ≤ n
+clashes-le zero a b = zero-le
+clashes-le (suc n) [] b = zero-le
+clashes-le (suc n) (p ∷ a) [] = zero-le
+clashes-le (suc n) (p ∷ a) (q ∷ b) = omega (arith, clash-le p q, clashes-le n a b)
+
+clash-self : (p : Pauli) → clash p p ≡ 0
+clash-self p = eqb→eq (clash p p) 0 (atP (λ p. eqb (clash p p) 0) tt p)
+
+clashes-self : (a : List Pauli) → clashes a a ≡ 0
+clashes-self [] = refl
+clashes-self (p ∷ a) = ap₂ _+_ (clash-self p) (clashes-self a)
+
+pub row-with-itself : (n : ℕ) (a : Row) → clashesOf n a a ≡ 0
+row-with-itself n a = clashes-self (take n (a .ps))
 
 -- ---- two rows commute in either order
 

@@ -12,9 +12,13 @@ use Rattle.pauli.specs.Row.{Row, padMul, expo, eqP}
 abbrev pub phaseOf : ℕ → Row → Row → ℕ
 phaseOf n a b = expo n a b % 4
 
--- two rows commute exactly when an even number of qubits hold differing non-identity Paulis
+-- the number of qubits at which two rows hold differing non-identity Paulis
+abbrev pub clashesOf : ℕ → Row → Row → ℕ
+clashesOf n a b = clashes (take n (a .ps)) (take n (b .ps))
+
+-- two rows commute exactly when it is even
 unfoldable pub commute : ℕ → Row → Row → Bool
-commute n a b = eqb (clashes (take n (a .ps)) (take n (b .ps)) % 2) 0
+commute n a b = eqb (clashesOf n a b % 2) 0
 
 -- a test at each number below m
 unfoldable pub everyBelow : ℕ → (ℕ → Bool) → Bool

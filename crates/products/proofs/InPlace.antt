@@ -14,7 +14,9 @@ use lib.Bits.{bitXor}
 use lib.ListN.{length, getD, take, drop, set, length-set}
 use lib.Pow.{pow-pos}
 use lib.Seq.{getD-take, getD-drop, take-set-lt, drop-set-add, take-set-le, drop-set-lt}
-use Rattle.pauli.specs.Pauli.{phases}
+use lib.Count.{ones}
+use Rattle.pauli.specs.Pauli.{phases, clashes}
+use Rattle.products.specs.declared.Factor.{Factor}
 use Rattle.encoding.specs.Words.{word}
 use Rattle.encoding.specs.Set.{part, row}
 use Rattle.products.specs.Leaves.{SameLength, Outside, Product, Multiplied, Room, inside, ProductIn}
@@ -38,9 +40,9 @@ outside-set {a} {w} {old} {new} i v o h =
 
 -- ---- the loop, i words done
 
-pub record Inplace (w s t : ℕ) (xs₀ zs₀ xs zs : List ℕ) (e i : ℕ) : Type 0 where
+pub record Inplace (w s t : ℕ) (xs₀ zs₀ xs zs : List ℕ) (n f i : ℕ) : Type 0 where
   pub le : i ≤ w
-  pub done : Done (part s (s + w) xs₀) (part s (s + w) zs₀) (part t (t + w) xs₀) (part t (t + w) zs₀) (part s (s + w) xs₀) (part s (s + w) zs₀) (part s (s + w) xs) (part s (s + w) zs) e i
+  pub done : Done (part s (s + w) xs₀) (part s (s + w) zs₀) (part t (t + w) xs₀) (part t (t + w) zs₀) (part s (s + w) xs₀) (part s (s + w) zs₀) (part s (s + w) xs) (part s (s + w) zs) n f i
   pub x-rest : Outside s (s + w) xs₀ xs
   pub z-rest : Outside s (s + w) zs₀ zs
 
@@ -54,7 +56,7 @@ module _ {w s t : ℕ} {xs₀ zs₀ : List ℕ} (m : Room w s t xs₀ zs₀) whe
       let sz = long s zs₀ (m .s-z) ∙ e in
       record { in-lx = refl; in-lz = sz; in-rx = long t xs₀ (m .t-x) ∙ e; in-rz = long t zs₀ (m .t-z) ∙ e; in-ox = refl; in-oz = sz }
 
-  pub inplace-none : Inplace w s t xs₀ zs₀ xs₀ zs₀ 0 0
+  pub inplace-none : Inplace w s t xs₀ zs₀ xs₀ zs₀ 0 0 0
   inplace-none =
       record {
         le = zero-le;
@@ -78,36 +80,39 @@ module _ {w s t : ℕ} {xs₀ zs₀ : List ℕ} (m : Room w s t xs₀ zs₀) whe
       go (inr (inl q)) = sym (getD-part t w new i h) ∙ ap (λ (l : List ℕ). getD l i 0) (part-above (t + w) o q)
       go (inr (inr q)) = sym (getD-part t w new i h) ∙ ap (λ (l : List ℕ). getD l i 0) (part-below o (omega arith) q)
 
-  pub inplace-more : {xs zs : List ℕ} {e i : ℕ} (p : ℕ) → Inplace w s t xs₀ zs₀ xs zs e i → i < w
-      → p ≡ phases (word 64 (getD xs (s + i) 0) (getD zs (s + i) 0)) (word 64 (getD xs (t + i) 0) (getD zs (t + i) 0)) % 4
-      → Inplace w s t xs₀ zs₀ (set xs (s + i) (bitXor (getD xs (s + i) 0) (getD xs (t + i) 0))) (set zs (s + i) (bitXor (getD zs (s + i) 0) (getD zs (t + i) 0))) (e + p) (i + 1)
-  inplace-more {xs} {zs} {e} {i} p n h q =
+  pub inplace-more : {xs zs : List ℕ} {n f i : ℕ} (n′ f′ : ℕ) → Inplace w s t xs₀ zs₀ xs zs n f i → i < w
+      → n′ ≡ (n + clashes (word 64 (getD xs (s + i) 0) (getD zs (s + i) 0)) (word 64 (getD xs (t + i) 0) (getD zs (t + i) 0))) % 2 ^ 64
+      → (2 * ones f′ + clashes (word 64 (getD xs (s + i) 0) (getD zs (s + i) 0)) (word 64 (getD xs (t + i) 0) (getD zs (t + i) 0))) % 4 ≡ (2 * ones f + phases (word 64 (getD xs (s + i) 0) (getD zs (s + i) 0)) (word 64 (getD xs (t + i) 0) (getD zs (t + i) 0))) % 4
+      → Inplace w s t xs₀ zs₀ (set xs (s + i) (bitXor (getD xs (s + i) 0) (getD xs (t + i) 0))) (set zs (s + i) (bitXor (getD zs (s + i) 0) (getD zs (t + i) 0))) n′ f′ (i + 1)
+  inplace-more {xs} {zs} {n} {f} {i} n′ f′ q h en ef =
       let vx = xors (part s (s + w) xs₀) (part t (t + w) xs₀) in
       let vz = xors (part s (s + w) zs₀) (part t (t + w) zs₀) in
       let a = part s (s + w) xs₀ in
       let lx : length a ≡ w = long s xs₀ (m .s-x) in
       let kx : i ≤ length vx = omega (arith, length-xors (part s (s + w) xs₀) (part t (t + w) xs₀) (same .in-rx)) in
       let kz : i ≤ length vz = omega (arith, length-xors (part s (s + w) zs₀) (part t (t + w) zs₀) (same .in-rz ∙ sym (same .in-lz)), same .in-lz) in
-      let e₁ : getD xs (s + i) 0 ≡ getD (part s (s + w) xs₀) i 0 = read-s i xs₀ xs vx h kx (n .done .x-words) in
-      let e₂ : getD zs (s + i) 0 ≡ getD (part s (s + w) zs₀) i 0 = read-s i zs₀ zs vz h kz (n .done .z-words) in
-      let e₃ : getD xs (t + i) 0 ≡ getD (part t (t + w) xs₀) i 0 = read-t i xs₀ xs vx (n .x-rest) h kx (n .done .x-words) in
-      let e₄ : getD zs (t + i) 0 ≡ getD (part t (t + w) zs₀) i 0 = read-t i zs₀ zs vz (n .z-rest) h kz (n .done .z-words) in
+      let e₁ : getD xs (s + i) 0 ≡ getD (part s (s + w) xs₀) i 0 = read-s i xs₀ xs vx h kx (q .done .x-words) in
+      let e₂ : getD zs (s + i) 0 ≡ getD (part s (s + w) zs₀) i 0 = read-s i zs₀ zs vz h kz (q .done .z-words) in
+      let e₃ : getD xs (t + i) 0 ≡ getD (part t (t + w) xs₀) i 0 = read-t i xs₀ xs vx (q .x-rest) h kx (q .done .x-words) in
+      let e₄ : getD zs (t + i) 0 ≡ getD (part t (t + w) zs₀) i 0 = read-t i zs₀ zs vz (q .z-rest) h kz (q .done .z-words) in
       record {
         le = omega arith;
         done = rw (part-set s w xs i (bitXor (getD xs (s + i) 0) (getD xs (t + i) 0)) h, part-set s w zs i (bitXor (getD zs (s + i) 0) (getD zs (t + i) 0)) h, e₁, e₂, e₃, e₄)
-            (done-more same p (n .done) (omega arith) (rw (e₁, e₂, e₃, e₄) at q));
-        x-rest = outside-set i (bitXor (getD xs (s + i) 0) (getD xs (t + i) 0)) (n .x-rest) h;
-        z-rest = outside-set i (bitXor (getD zs (s + i) 0) (getD zs (t + i) 0)) (n .z-rest) h;
+            (done-more same n′ f′ (q .done) (omega arith) (rw (e₁, e₂, e₃, e₄) at en) (rw (e₁, e₂, e₃, e₄) at ef));
+        x-rest = outside-set i (bitXor (getD xs (s + i) 0) (getD xs (t + i) 0)) (q .x-rest) h;
+        z-rest = outside-set i (bitXor (getD zs (s + i) 0) (getD zs (t + i) 0)) (q .z-rest) h;
       }
 
-  pub inplace-all : {xs zs : List ℕ} {e i : ℕ} → Inplace w s t xs₀ zs₀ xs zs e i → w ≤ i → Fit xs₀ → Fit zs₀
-      → Product (part s (s + w) xs₀) (part s (s + w) zs₀) (part t (t + w) xs₀) (part t (t + w) zs₀) (part s (s + w) xs) (part s (s + w) zs) (e % 4)
-  inplace-all {xs} {zs} {e} {i} n h f g =
+  pub inplace-all : {xs zs : List ℕ} {n f i : ℕ} {r : Factor} → Inplace w s t xs₀ zs₀ xs zs n f i → w ≤ i → Fit xs₀ → Fit zs₀
+      → r .phase .0 ≡ (n + 2 * ones f) % 4 → r .clashes ≡ n % 65536
+      → Product (part s (s + w) xs₀) (part s (s + w) zs₀) (part t (t + w) xs₀) (part t (t + w) zs₀) (part s (s + w) xs) (part s (s + w) zs) r
+  inplace-all {xs} {zs} {n} {f} {i} q h fx fz ee en =
       let lx : length (part s (s + w) xs₀) ≡ w = long s xs₀ (m .s-x) in
-      done-all same (n .done) (omega arith) (fit-part s (s + w) xs₀ f) (fit-part s (s + w) zs₀ g) (fit-part t (t + w) xs₀ f) (fit-part t (t + w) zs₀ g)
+      done-all same (q .done) (omega arith) (fit-part s (s + w) xs₀ fx) (fit-part s (s + w) zs₀ fz) (fit-part t (t + w) xs₀ fx) (fit-part t (t + w) zs₀ fz) ee en
 
-  pub multiplied : {xs zs : List ℕ} {e i : ℕ} → Inplace w s t xs₀ zs₀ xs zs e i → w ≤ i → Fit xs₀ → Fit zs₀ → Multiplied w s t xs₀ zs₀ xs zs (e % 4)
-  multiplied n h f g = record { here = inplace-all n h f g; x-rest = n .x-rest; z-rest = n .z-rest }
+  pub multiplied : {xs zs : List ℕ} {n f i : ℕ} {r : Factor} → Inplace w s t xs₀ zs₀ xs zs n f i → w ≤ i → Fit xs₀ → Fit zs₀
+      → r .phase .0 ≡ (n + 2 * ones f) % 4 → r .clashes ≡ n % 65536 → Multiplied w s t xs₀ zs₀ xs zs r
+  multiplied q h fx fz ee en = record { here = inplace-all q h fx fz ee en; x-rest = q .x-rest; z-rest = q .z-rest }
 
 -- ---- the tests as the code makes them
 
@@ -163,15 +168,15 @@ module _ (w s t : ℕ) (xs zs : List ℕ) where
   outside-t ea ta eb f = ap₂ (λ (b c : Bool). b && (c && (eqb s t || (leb (s + w) t || leb (t + w) s)))) (sym ea ∙ ta) (sym eb ∙ f)
 
   -- the parts lie inside: the product is done
-  pub done-in : {xs′ zs′ : List ℕ} {e : ℕ} → inside w s t xs zs ≡ true → Multiplied w s t xs zs xs′ zs′ e → ProductIn w s t xs zs xs′ zs′ e
+  pub done-in : {xs′ zs′ : List ℕ} {e : Factor} → inside w s t xs zs ≡ true → Multiplied w s t xs zs xs′ zs′ e → ProductIn w s t xs zs xs′ zs′ e
   done-in {xs′} {zs′} {e} t₁ q = record { done = λ _. q; x-kept = λ f. absurd (no f); z-kept = λ f. absurd (no f); none = λ f. absurd (no f) }
     where
       no : inside w s t xs zs ≡ false → ⊥
       no f = let e : _≡_ {A = Bool} true false = sym t₁ ∙ f in let z : _≡_ {A = ℕ} 0 1 = cc in omega arith
 
   -- they do not: nothing is done
-  pub kept-in : inside w s t xs zs ≡ false → ProductIn w s t xs zs xs zs 0
-  kept-in f = record { done = λ t₁. absurd (no t₁); x-kept = λ _. refl; z-kept = λ _. refl; none = λ _. refl }
+  pub kept-in : {r : Factor} → r .phase .0 ≡ 0 → r .clashes ≡ 0 → inside w s t xs zs ≡ false → ProductIn w s t xs zs xs zs r
+  kept-in ee en f = record { done = λ t₁. absurd (no t₁); x-kept = λ _. refl; z-kept = λ _. refl; none = λ _. record { exponent = ee; number = en } }
     where
       no : inside w s t xs zs ≡ true → ⊥
       no t₁ = let e : _≡_ {A = Bool} true false = sym t₁ ∙ f in let z : _≡_ {A = ℕ} 0 1 = cc in omega arith

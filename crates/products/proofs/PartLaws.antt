@@ -12,10 +12,11 @@ use lib.Seq.{length-take-le, take-all, take-at, drop-at, take-take, drop-drop}
 use native.Mathlib.Nat.{add-sub-cancel-left}
 use borrow.Rule.Slice.PartMut.{postOf, putMid, put-same, same-len-mid, take-put, drop-put}
 use Rattle.encoding.proofs.Parts.{row-end, length-part}
-use Rattle.pauli.specs.Pauli.{Pauli, hasX, hasZ, mul, phases, act, actPhase}
+use Rattle.pauli.specs.Pauli.{Pauli, hasX, hasZ, mul, act, actPhase}
 use Rattle.encoding.specs.Words.{unpack, unbits, pack}
 use Rattle.encoding.specs.Set.{part, row}
-use Rattle.products.specs.Leaves.{Acted, ActedAt, RowAction, SameLength, Outside, Product, ProductAt, RowProduct, shortest₃, shortest₆}
+use Rattle.products.specs.declared.Factor.{Factor}
+use Rattle.products.specs.Leaves.{FactorOf, Acted, ActedAt, RowAction, SameLength, Outside, Product, ProductAt, RowProduct, shortest₃, shortest₆}
 
 -- the parts from a to e of six runs that all reach e
 pub parts-same : (lx lz rx rz ox oz : List ℕ) (a e : ℕ) → a ≤ e → e ≤ length lx → e ≤ length lz → e ≤ length rx → e ≤ length rz → e ≤ length ox → e ≤ length oz
@@ -49,7 +50,7 @@ pub outside-one : (s w : ℕ) {old new₁ new₂ : List ℕ} → Outside s (s + 
 outside-one s w {old} o p e = put-is s w o ∙ ap (putMid s w old) e ∙ sym (put-is s w p)
 
 -- what a call on the parts gives, said of the whole
-pub product-at : {lx lz rx rz : List ℕ} (ox oz : List ℕ) (a e : ℕ) {px pz : List ℕ} {p : ℕ} → a ≤ e → e ≤ length ox → e ≤ length oz
+pub product-at : {lx lz rx rz : List ℕ} (ox oz : List ℕ) (a e : ℕ) {px pz : List ℕ} {p : Factor} → a ≤ e → e ≤ length ox → e ≤ length oz
     → length px ≡ length (part a e ox) → length pz ≡ length (part a e oz)
     → Product (part a e lx) (part a e lz) (part a e rx) (part a e rz) px pz p
     → ProductAt a e lx lz rx rz ox oz (putMid a (e - a) ox px) (putMid a (e - a) oz pz) p
@@ -104,7 +105,7 @@ acted-at {lx} {lz} st k {p} {e} h l q =
     }
 
 -- the same up to a length that is written otherwise
-pub product-up-to : {k k′ : ℕ} {lx lz rx rz ox oz ox′ oz′ : List ℕ} {e : ℕ} → k ≡ k′ → ProductAt 0 k lx lz rx rz ox oz ox′ oz′ e → ProductAt 0 k′ lx lz rx rz ox oz ox′ oz′ e
+pub product-up-to : {k k′ : ℕ} {lx lz rx rz ox oz ox′ oz′ : List ℕ} {e : Factor} → k ≡ k′ → ProductAt 0 k lx lz rx rz ox oz ox′ oz′ e → ProductAt 0 k′ lx lz rx rz ox oz ox′ oz′ e
 product-up-to {k} {k′} {lx} {lz} {rx} {rz} {ox} {oz} {ox′} {oz′} {e} q p = subst (λ (j : ℕ). ProductAt 0 j lx lz rx rz ox oz ox′ oz′ e) q p
 
 pub acted-up-to : {k k′ : ℕ} {lx lz st st′ : List ℕ} {e : ℕ} → k ≡ k′ → ActedAt k lx lz st st′ e → ActedAt k′ lx lz st st′ e
@@ -115,7 +116,7 @@ acted-up-to {k} {k′} {lx} {lz} {st} {st′} {e} q p = subst (λ (j : ℕ). Act
 pub whole : (k : ℕ) (l : List ℕ) → k ≡ length l → part 0 k l ≡ l
 whole k l e = take-all (k - 0) l (omega arith)
 
-pub same-product : {lx lz rx rz ox oz ox′ oz′ : List ℕ} {e : ℕ} → SameLength (length lx) lx lz rx rz ox oz → RowProduct lx lz rx rz ox oz ox′ oz′ e → Product lx lz rx rz ox′ oz′ e
+pub same-product : {lx lz rx rz ox oz ox′ oz′ : List ℕ} {e : Factor} → SameLength (length lx) lx lz rx rz ox oz → RowProduct lx lz rx rz ox oz ox′ oz′ e → Product lx lz rx rz ox′ oz′ e
 same-product {lx} {lz} {rx} {rz} {ox} {oz} {ox′} {oz′} {e} s p =
     let k = shortest₆ lx lz rx rz ox oz in
     let is : k ≡ length lx = omega (arith, s .in-lz, s .in-rx, s .in-rz, s .in-ox, s .in-oz) in
@@ -124,11 +125,11 @@ same-product {lx} {lz} {rx} {rz} {ox} {oz} {ox′} {oz′} {e} s p =
     record {
       x-words = sym (whole k ox′ (is ∙ sym (p .x-rest .long ∙ s .in-ox))) ∙ p .here .x-words ∙ ap₂ (pack hasX) (ap length (whole k lx is)) (ap₂ mul l r);
       z-words = sym (whole k oz′ (is ∙ sym (p .z-rest .long ∙ s .in-oz))) ∙ p .here .z-words ∙ ap₂ (pack hasZ) (ap length (whole k lx is)) (ap₂ mul l r);
-      exponent = p .here .exponent ∙ ap₂ (λ (a b : List Pauli). phases a b % 4) l r;
+      factor = subst (λ (a : List Pauli). FactorOf a (unpack rx rz) e) l (subst (λ (b : List Pauli). FactorOf (unpack (part 0 k lx) (part 0 k lz)) b e) r (p .here .factor));
     }
 
 -- the parts from a to e were lent, and put back
-pub part-product : {lx lz rx rz ox oz : List ℕ} (a e : ℕ) {px pz : List ℕ} {p : ℕ} → a ≤ e → e ≤ length lx → SameLength (length lx) lx lz rx rz ox oz
+pub part-product : {lx lz rx rz ox oz : List ℕ} (a e : ℕ) {px pz : List ℕ} {p : Factor} → a ≤ e → e ≤ length lx → SameLength (length lx) lx lz rx rz ox oz
     → length px ≡ length (part a e ox) → length pz ≡ length (part a e oz)
     → RowProduct (part a e lx) (part a e lz) (part a e rx) (part a e rz) (part a e ox) (part a e oz) px pz p
     → ProductAt a e lx lz rx rz ox oz (putMid a (e - a) ox px) (putMid a (e - a) oz pz) p

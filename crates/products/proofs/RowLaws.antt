@@ -12,7 +12,10 @@ use lib.Seq.{drop-cons, drop-length, drop-nil}
 use Rattle.pauli.specs.Pauli.{Pauli, total, phase, mul, phases, clash, clashes}
 use Rattle.encoding.specs.Words.{word, unpack, pack}
 use Rattle.pauli.specs.Pauli.{hasX, hasZ}
-use Rattle.products.specs.Leaves.{SameLength, Product, shortest₄}
+use Rattle.products.specs.Leaves.{SameLength, FactorOf, Product, shortest₄}
+use Rattle.products.specs.declared.Factor.{Factor}
+use lib.Count.{ones, onesIn}
+use lib.Dec.{eqb}
 use Rattle.pauli.proofs.Lists.{length-each}
 use Rattle.encoding.proofs.WordLaws.{xors, unpack-mul, unpack-total, Fit, pack-x, pack-z}
 
@@ -124,76 +127,93 @@ all-of n a b o₀ o i ha hb ho h e =
     let l : length (xors a b) ≡ n = length-xors a b (hb ∙ sym ha) ∙ ha in
     e ∙ ap (λ (n : ℕ). take n (xors a b) ++ drop n o₀) (h ∙ sym l) ∙ front-all (xors a b) o₀ (l ∙ sym ho)
 
+-- ---- the sums of a row's product, i words done: n clashes are counted, and f holds the bits turned at each 3
+
+pub record Adding (lx lz rx rz : List ℕ) (n f i : ℕ) : Type 0 where
+  pub number : (n + to-come clash lx lz rx rz i) % 65536 ≡ clashes (unpack lx lz) (unpack rx rz) % 65536
+  pub exponent : (n + 2 * ones f + to-come phase lx lz rx rz i) % 4 ≡ phases (unpack lx lz) (unpack rx rz) % 4
+
+number-more : (n c t : ℕ) → ((n + c) % 2 ^ 64 + t) % 65536 ≡ (n + (c + t)) % 65536
+number-more n c t = omega arith
+
+exponent-more : (n c p f g t : ℕ) → (2 * g + c) % 4 ≡ (2 * f + p) % 4 → ((n + c) % 2 ^ 64 + 2 * g + t) % 4 ≡ (n + 2 * f + (p + t)) % 4
+exponent-more n c p f g t e = omega arith
+
+module _ (lx lz rx rz : List ℕ) where
+  pub adding-none : Adding lx lz rx rz 0 0 0
+  unfolding ones onesIn
+  adding-none =
+      record {
+        number = ap (λ (n : ℕ). n % 65536) (zero-add (to-come clash lx lz rx rz 0));
+        exponent = ap (λ (n : ℕ). n % 4) (zero-add (to-come phase lx lz rx rz 0));
+      }
+
+  pub adding-more : {n f i : ℕ} (n′ f′ : ℕ) → Adding lx lz rx rz n f i → i < shortest₄ lx lz rx rz
+      → n′ ≡ (n + clashes (word 64 (getD lx i 0) (getD lz i 0)) (word 64 (getD rx i 0) (getD rz i 0))) % 2 ^ 64
+      → (2 * ones f′ + clashes (word 64 (getD lx i 0) (getD lz i 0)) (word 64 (getD rx i 0) (getD rz i 0))) % 4 ≡ (2 * ones f + phases (word 64 (getD lx i 0) (getD lz i 0)) (word 64 (getD rx i 0) (getD rz i 0))) % 4
+      → Adding lx lz rx rz n′ f′ (i + 1)
+  adding-more {n} {f} {i} n′ f′ s h en ef =
+      let a = word 64 (getD lx i 0) (getD lz i 0) in
+      let b = word 64 (getD rx i 0) (getD rz i 0) in
+      let one : (v : Pauli → Pauli → ℕ) → to-come v lx lz rx rz i ≡ total v a b + to-come v lx lz rx rz (i + 1) =
+      λ v. to-come-more v lx lz rx rz i (omega arith) (omega arith) (omega arith) (omega arith) in
+      record {
+        number =
+            ap (λ (k : ℕ). (k + to-come clash lx lz rx rz (i + 1)) % 65536) en
+            ∙ number-more n (clashes a b) (to-come clash lx lz rx rz (i + 1))
+            ∙ ap (λ (k : ℕ). (n + k) % 65536) (sym (one clash)) ∙ s .number;
+        exponent =
+            ap (λ (k : ℕ). (k + 2 * ones f′ + to-come phase lx lz rx rz (i + 1)) % 4) en
+            ∙ exponent-more n (clashes a b) (phases a b) (ones f) (ones f′) (to-come phase lx lz rx rz (i + 1)) ef
+            ∙ ap (λ (k : ℕ). (n + 2 * ones f + k) % 4) (sym (one phase)) ∙ s .exponent;
+      }
+
+  pub adding-all : {n f i : ℕ} {r : Factor} → Adding lx lz rx rz n f i → shortest₄ lx lz rx rz ≤ i → r .phase .0 ≡ (n + 2 * ones f) % 4 → r .clashes ≡ n % 65536
+      → FactorOf (unpack lx lz) (unpack rx rz) r
+  adding-all {n} {f} {i} s h ee en =
+      record {
+        exponent = omega (arith, to-come-none phase lx lz rx rz i h, s .exponent);
+        number = omega (arith, to-come-none clash lx lz rx rz i h, s .number);
+      }
+
+-- the number of clashes is even, also where it wraps
+pub even-number : {l r : List Pauli} {f : Factor} → FactorOf l r f → eqb (f .clashes % 2) 0 ≡ eqb (clashes l r % 2) 0
+even-number {l} {r} {f} o = let e : f .clashes % 2 ≡ clashes l r % 2 = omega (arith, o .number) in ap (λ (k : ℕ). eqb k 0) e
+
 -- ---- the loop of a row's product, i words done
 
-pub record Done (lx lz rx rz ox₀ oz₀ ox oz : List ℕ) (e i : ℕ) : Type 0 where
+pub record Done (lx lz rx rz ox₀ oz₀ ox oz : List ℕ) (n f i : ℕ) : Type 0 where
   pub le : i ≤ length lx
-  pub small : e ≤ 3 * i
   pub x-long : length ox ≡ length lx
   pub z-long : length oz ≡ length lx
   pub x-words : ox ≡ take i (xors lx rx) ++ drop i ox₀
   pub z-words : oz ≡ take i (xors lz rz) ++ drop i oz₀
-  pub exponent : (e + to-come phase lx lz rx rz i) % 4 ≡ phases (unpack lx lz) (unpack rx rz) % 4
+  pub sums : Adding lx lz rx rz n f i
 
 module _ {lx lz rx rz ox₀ oz₀ : List ℕ} (s : SameLength (length lx) lx lz rx rz ox₀ oz₀) where
-  pub done-none : Done lx lz rx rz ox₀ oz₀ ox₀ oz₀ 0 0
-  done-none =
-      record {
-        le = zero-le;
-        small = zero-le;
-        x-long = s .in-ox;
-        z-long = s .in-oz;
-        x-words = refl;
-        z-words = refl;
-        exponent = ap (λ (n : ℕ). n % 4) (zero-add (to-come phase lx lz rx rz 0));
-      }
+  pub done-none : Done lx lz rx rz ox₀ oz₀ ox₀ oz₀ 0 0 0
+  done-none = record { le = zero-le; x-long = s .in-ox; z-long = s .in-oz; x-words = refl; z-words = refl; sums = adding-none lx lz rx rz }
 
-  pub done-more : {ox oz : List ℕ} {e i : ℕ} (p : ℕ) → Done lx lz rx rz ox₀ oz₀ ox oz e i → i < length lx
-      → p ≡ phases (word 64 (getD lx i 0) (getD lz i 0)) (word 64 (getD rx i 0) (getD rz i 0)) % 4
-      → Done lx lz rx rz ox₀ oz₀ (set ox i (bitXor (getD lx i 0) (getD rx i 0))) (set oz i (bitXor (getD lz i 0) (getD rz i 0))) (e + p) (i + 1)
-  done-more {ox} {oz} {e} {i} p d h q =
+  pub done-more : {ox oz : List ℕ} {n f i : ℕ} (n′ f′ : ℕ) → Done lx lz rx rz ox₀ oz₀ ox oz n f i → i < length lx
+      → n′ ≡ (n + clashes (word 64 (getD lx i 0) (getD lz i 0)) (word 64 (getD rx i 0) (getD rz i 0))) % 2 ^ 64
+      → (2 * ones f′ + clashes (word 64 (getD lx i 0) (getD lz i 0)) (word 64 (getD rx i 0) (getD rz i 0))) % 4 ≡ (2 * ones f + phases (word 64 (getD lx i 0) (getD lz i 0)) (word 64 (getD rx i 0) (getD rz i 0))) % 4
+      → Done lx lz rx rz ox₀ oz₀ (set ox i (bitXor (getD lx i 0) (getD rx i 0))) (set oz i (bitXor (getD lz i 0) (getD rz i 0))) n′ f′ (i + 1)
+  done-more {ox} {oz} {n} {f} {i} n′ f′ d h en ef =
       record {
         le = omega arith;
-        small = omega arith;
         x-long = length-set ox i (bitXor (getD lx i 0) (getD rx i 0)) ∙ d .x-long;
         z-long = length-set oz i (bitXor (getD lz i 0) (getD rz i 0)) ∙ d .z-long;
         x-words = word-more (length lx) lx rx ox₀ ox i refl (s .in-rx) (s .in-ox) h (d .x-words);
         z-words = word-more (length lx) lz rz oz₀ oz i (s .in-lz) (s .in-rz) (s .in-oz) h (d .z-words);
-        exponent = omega (arith, to-come-more phase lx lz rx rz i h (omega (arith, s .in-lz)) (omega (arith, s .in-rx)) (omega (arith, s .in-rz)));
+        sums = adding-more lx lz rx rz n′ f′ (d .sums) (omega (arith, s .in-lz, s .in-rx, s .in-rz)) en ef;
       }
 
-  pub done-all : {ox oz : List ℕ} {e i : ℕ} → Done lx lz rx rz ox₀ oz₀ ox oz e i → length lx ≤ i → Fit lx → Fit lz → Fit rx → Fit rz
-      → Product lx lz rx rz ox oz (e % 4)
-  done-all {ox} {oz} {e} {i} d h f₁ f₂ f₃ f₄ =
+  pub done-all : {ox oz : List ℕ} {n f i : ℕ} {r : Factor} → Done lx lz rx rz ox₀ oz₀ ox oz n f i → length lx ≤ i → Fit lx → Fit lz → Fit rx → Fit rz
+      → r .phase .0 ≡ (n + 2 * ones f) % 4 → r .clashes ≡ n % 65536 → Product lx lz rx rz ox oz r
+  done-all {ox} {oz} {n} {f} {i} d h f₁ f₂ f₃ f₄ ee en =
       let end : i ≡ length lx = omega (arith, d .le) in
       record {
         x-words = all-of (length lx) lx rx ox₀ ox i refl (s .in-rx) (s .in-ox) end (d .x-words) ∙ packed-x lx lz rx rz (s .in-lz) (s .in-rx) (s .in-rz) f₁ f₃;
         z-words = all-of (length lx) lz rz oz₀ oz i (s .in-lz) (s .in-rz) (s .in-oz) end (d .z-words) ∙ packed-z lx lz rx rz (s .in-lz) (s .in-rx) (s .in-rz) f₂ f₄;
-        exponent = omega (arith, to-come-none phase lx lz rx rz i (omega (arith, s .in-lz, s .in-rx, s .in-rz)));
+        factor = adding-all lx lz rx rz (d .sums) (omega (arith, s .in-lz, s .in-rx, s .in-rz)) ee en;
       }
-
--- ---- sums over the words, mod 4 and mod 2: n so far, at most b
-
-pub record Summing (v : Pauli → Pauli → ℕ) (q b : ℕ) (lx lz rx rz : List ℕ) (k n i : ℕ) : Type 0 where
-  pub le : i ≤ k
-  pub small : n ≤ b
-  pub whole : (n + to-come v lx lz rx rz i) % q ≡ total v (unpack lx lz) (unpack rx rz) % q
-
-module _ (lx lz rx rz : List ℕ) {k : ℕ} (hk : k ≡ shortest₄ lx lz rx rz) where
-  module _ (v : Pauli → Pauli → ℕ) {i : ℕ} (h : i < k) where
-    pub one-more : to-come v lx lz rx rz i ≡ total v (word 64 (getD lx i 0) (getD lz i 0)) (word 64 (getD rx i 0) (getD rz i 0)) + to-come v lx lz rx rz (i + 1)
-    one-more = to-come-more v lx lz rx rz i (omega arith) (omega arith) (omega arith) (omega arith)
-
-  pub phase-more : {n i : ℕ} (p : ℕ) → Summing phase 4 (3 * i) lx lz rx rz k n i → i < k
-      → p ≡ phases (word 64 (getD lx i 0) (getD lz i 0)) (word 64 (getD rx i 0) (getD rz i 0)) % 4 → Summing phase 4 (3 * (i + 1)) lx lz rx rz k (n + p) (i + 1)
-  phase-more {n} {i} p s h e = record { le = omega arith; small = omega arith; whole = omega (arith, one-more phase h, s .whole) }
-
-  pub clash-more : {n i : ℕ} (p : ℕ) → Summing clash 2 1 lx lz rx rz k n i → i < k
-      → p ≡ clashes (word 64 (getD lx i 0) (getD lz i 0)) (word 64 (getD rx i 0) (getD rz i 0)) → Summing clash 2 1 lx lz rx rz k ((n + p) % 2) (i + 1)
-  clash-more {n} {i} p s h e = record { le = omega arith; small = omega arith; whole = omega (arith, one-more clash h, s .whole) }
-
-  pub phase-all : {n i : ℕ} → Summing phase 4 (3 * i) lx lz rx rz k n i → k ≤ i → n % 4 ≡ phases (unpack lx lz) (unpack rx rz) % 4
-  phase-all {n} {i} s h = omega (arith, to-come-none phase lx lz rx rz i (omega arith), s .whole)
-
-  pub clash-all : {n i : ℕ} → Summing clash 2 1 lx lz rx rz k n i → k ≤ i → n ≡ clashes (unpack lx lz) (unpack rx rz) % 2
-  clash-all {n} {i} s h = omega (arith, to-come-none clash lx lz rx rz i (omega arith), s .whole)

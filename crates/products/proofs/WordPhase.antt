@@ -2,14 +2,17 @@
 use mathlib.Core.Path.{_≡_, refl, ap, _∙_}
 use mathlib.Core.Bool.{Bool, false}
 use mathlib.Core.List.{List, [], _∷_}
-use Prim.Native.Nat.{ℕ, zero, suc, _+_, _/_, _^_, _<_}
+use Prim.Native.Nat.{ℕ, zero, suc, _+_, _*_, _/_, _%_, _^_, _<_}
+use native.Mathlib.Omega.{arith}
+use lib.Bits.{bitAnd, bitXor}
+use lib.Count.{ones}
 use lib.Dec.{T, eqb}
 use lib.ListN.{getD}
 use lib.Pow.{pow-pos}
 use Rattle.pauli.specs.Pauli.{Pauli, total, phase, phases, turnPhase, actPhase, clash, clashes}
 use Rattle.encoding.specs.Words.{odd, word, bits}
 use Rattle.pauli.specs.Pauli.{ofBits}
-use Rattle.products.proofs.Masks.{Mask, var, inv, both, either, differ, Below, counted, place, places, everyL, counts}
+use Rattle.products.proofs.Masks.{Mask, var, inv, both, either, differ, Below, wordOf, word-lt, counted, place, places, everyL, counts}
 
 pub below₄ : (d : ℕ) {a b c e : ℕ} → a < 2 ^ d → b < 2 ^ d → c < 2 ^ d → e < 2 ^ d → Below d (a ∷ b ∷ c ∷ e ∷ [])
 below₄ d ha hb hc he zero = ha
@@ -23,6 +26,11 @@ below₃ d ha hb hc zero = ha
 below₃ d ha hb hc (suc zero) = hb
 below₃ d ha hb hc (suc (suc zero)) = hc
 below₃ d ha hb hc (suc (suc (suc k))) = pow-pos d
+
+below₂ : (d : ℕ) {a b : ℕ} → a < 2 ^ d → b < 2 ^ d → Below d (a ∷ b ∷ [])
+below₂ d ha hb zero = ha
+below₂ d ha hb (suc zero) = hb
+below₂ d ha hb (suc (suc k)) = pow-pos d
 
 -- ---- what one place holds: left and right Pauli, or a Pauli and a bit
 
@@ -67,9 +75,18 @@ joined =
     ∷ (3, either (either (all₄ lx lz rx (inv rz)) (all₄ lx (inv lz) (inv rx) rz)) (all₄ (inv lx) lz rx rz))
     ∷ []
 
--- where the Paulis clash
+-- where the Paulis clash, and where they bring 3
+abbrev clash-mask : Mask
+clash-mask = differ (both lx rz) (both lz rx)
+
+abbrev three-mask : Mask
+three-mask = both (differ (differ (differ lx rx) (differ lz rz)) (both lx rz)) clash-mask
+
 abbrev pub apart : List (ℕ × Mask)
-apart = (1, differ (both lx rz) (both lz rx)) ∷ []
+apart = (1, clash-mask) ∷ []
+
+abbrev pub with-threes : List (ℕ × Mask)
+with-threes = (1, clash-mask) ∷ (2, three-mask) ∷ []
 
 -- on a state: Y, and Y or Z on 1
 abbrev pub acting : List (ℕ × Mask)
@@ -87,6 +104,23 @@ joined-phases = counts₄ phase joined tt
 
 pub apart-clashes : (d a b c e : ℕ) → Below d (a ∷ b ∷ c ∷ e ∷ []) → counted d (a ∷ b ∷ c ∷ e ∷ []) apart ≡ clashes (word d a b) (word d c e)
 apart-clashes = counts₄ clash apart tt
+
+threes-phases : (d a b c e : ℕ) → Below d (a ∷ b ∷ c ∷ e ∷ []) → counted d (a ∷ b ∷ c ∷ e ∷ []) with-threes ≡ phases (word d a b) (word d c e)
+threes-phases = counts₄ phase with-threes tt
+
+-- THE LAW OF TURNED BITS: an exclusive or has the ones of both, less two for each that they share
+pub ones-xor : (d a b : ℕ) → a < 2 ^ d → b < 2 ^ d → ones (bitXor a b) + 2 * ones (bitAnd a b) ≡ ones a + ones b
+ones-xor d a b h k =
+    let v : List Bool → ℕ = λ bs. place bs ((1, var 0) ∷ (1, var 1) ∷ []) in
+    let one = counts ((1, differ (var 0) (var 1)) ∷ (2, both (var 0) (var 1)) ∷ []) v 2 tt d (a ∷ b ∷ []) refl (below₂ d h k) in
+    let two = counts ((1, var 0) ∷ (1, var 1) ∷ []) v 2 tt d (a ∷ b ∷ []) refl (below₂ d h k) in
+    omega arith
+
+-- so twice the ones of f, where the bits of the threes were turned over, and the clashes are what the product brings, mod 4
+pub turned : (d a b c e f : ℕ) → Below d (a ∷ b ∷ c ∷ e ∷ []) → f < 2 ^ d
+    → (2 * ones (bitXor f (wordOf d (a ∷ b ∷ c ∷ e ∷ []) three-mask)) + clashes (word d a b) (word d c e)) % 4 ≡ (2 * ones f + phases (word d a b) (word d c e)) % 4
+turned d a b c e f h k =
+    omega (arith, apart-clashes d a b c e h, threes-phases d a b c e h, ones-xor d f (wordOf d (a ∷ b ∷ c ∷ e ∷ []) three-mask) k (word-lt d (a ∷ b ∷ c ∷ e ∷ []) three-mask h))
 
 pub acting-phases : (d a b r : ℕ) → Below d (a ∷ b ∷ r ∷ []) → counted d (a ∷ b ∷ r ∷ []) acting ≡ actPhase (word d a b) (bits d r)
 acting-phases d a b r h = counts acting (λ bs. turnPhase (leftP bs) (getD bs 2 false)) 3 tt d (a ∷ b ∷ r ∷ []) refl h ∙ act-places d a b r

@@ -7,8 +7,16 @@ ghost use lib.Dec.{eqb, leb};
 ghost use lib.ListN.{length};
 ghost use Rattle.pauli.specs.Pauli.{phases, actPhase, clashes};
 ghost use Rattle.encoding.specs.Words.{word, bits, unpack};
-ghost use Rattle.products.specs.Leaves.{SameLength, Product, ProductAt, shortest₃, shortest₄, shortest₆, RowProduct, Room, Multiplied, ProductIn, Acted, ActedAt, RowAction};
+ghost use Rattle.products.specs.Leaves.{SameLength, FactorOf, Product, ProductAt, shortest₃, shortest₄, shortest₆, RowProduct, Room, Multiplied, ProductIn, Acted, ActedAt, RowAction};
 use pauli::ComplexSign;
+use std::num::wrapping_add_u64;
+
+// What the product of two rows brings beside its words: the exponent of i, and the number of qubits at which the Paulis differ and neither is
+// I. The number is exact up to 65,535 and wraps above, which rows of 64 words are far from.
+pub struct Factor {
+    pub phase: ComplexSign,
+    pub clashes: u16,
+}
 
 // How many bits of x are set.
 pub fn count(x: u64) -> u64
@@ -37,11 +45,30 @@ pub extern "C" fn mul_op_state_phase_u64(lx: u64, lz: u64, r: u64) -> u64
     (y + 2 * flips) % 4
 }
 
-// The number of qubits of a word at which the Paulis differ and neither is I.
-fn clash_u64(lx: u64, lz: u64, rx: u64, rz: u64) -> u64
-    ensures { λ r. ⌜ (r ≡ clashes (word 64 lx lz) (word 64 rx rz)) × (r ≤ 64) ⌝ }
+// To n is added the number of qubits of a word at which the Paulis differ and neither is I.
+fn add_clashes(n: u64, lx: u64, lz: u64, rx: u64, rz: u64) -> u64
+    ensures { λ r. ⌜ r ≡ (n + clashes (word 64 lx lz) (word 64 rx rz)) % 2 ^ 64 ⌝ }
 {
-    count((lx & rz) ^ (lz & rx))
+    wrapping_add_u64(n, count((lx & rz) ^ (lz & rx)))
+}
+
+// In f the bits of the qubits whose product brings 3 are turned over. Clashes bring 1 or 3, so twice the ones of f is what they bring beside
+// their number, mod 4.
+fn turn_threes(f: u64, lx: u64, lz: u64, rx: u64, rz: u64) -> u64
+    ensures { λ r. ⌜ (2 * ones r + clashes (word 64 lx lz) (word 64 rx rz)) % 4 ≡ (2 * ones f + phases (word 64 lx lz) (word 64 rx rz)) % 4 ⌝ }
+{
+    f ^ (((lx ^ rx) ^ (lz ^ rz) ^ (lx & rz)) & ((lx & rz) ^ (lz & rx)))
+}
+
+// The factor, when n clashes are counted and f holds the turned bits.
+fn factor_from(n: u64, f: u64) -> Factor
+    ensures { λ r. ⌜ (r .phase .0 ≡ (n + 2 * ones f) % 4) × (r .clashes ≡ n % 65536) ⌝ }
+{
+    let e = (n % 4 + 2 * count(f)) % 4;
+    Factor {
+        phase: ComplexSign(e as u8),
+        clashes: (n % 65536) as u16,
+    }
 }
 
 fn shorter(a: usize, b: usize) -> usize
@@ -56,60 +83,55 @@ fn shortest(a: &[u64], b: &[u64], c: &[u64], d: &[u64]) -> usize
     shorter(a.len(), shorter(b.len(), shorter(c.len(), d.len())))
 }
 
-// The exponent of the product of two rows. Here and below the words' exponents, 3 at most each, are summed, and reduced once: such a loop is
-// compiled for several words at once.
-pub fn mul_op_op_phase(lx: &[u64], lz: &[u64], rx: &[u64], rz: &[u64]) -> ComplexSign
-    ensures { λ e. ⌜ e .0 ≡ phases (unpack (now (lx .entry)) (now (lz .entry))) (unpack (now (rx .entry)) (now (rz .entry))) % 4 ⌝ }
-{
-    let k = shortest(lx, lz, rx, rz);
-    let mut e: u64 = 0;
-    let mut i = 0;
-    while i < k {
-        e += mul_op_op_phase_u64(lx[i], lz[i], rx[i], rz[i]);
-        i += 1;
-    }
-    ComplexSign((e % 4) as u8)
-}
-
-// Whether two rows commute: an even number of qubits hold differing Paulis that are not I.
-pub fn commutes(lx: &[u64], lz: &[u64], rx: &[u64], rz: &[u64]) -> bool
-    ensures { λ r. ⌜ r ≡ eqb (clashes (unpack (now (lx .entry)) (now (lz .entry))) (unpack (now (rx .entry)) (now (rz .entry))) % 2) 0 ⌝ }
+// The factor of the product of two rows, nothing written: the exponent, which the name has from the Rust, and the number of clashes with it. One
+// count a word and an exclusive or: such a loop is compiled for several words at once.
+pub fn mul_op_op_phase(lx: &[u64], lz: &[u64], rx: &[u64], rz: &[u64]) -> Factor
+    ensures { λ r. ⌜ FactorOf (unpack (now (lx .entry)) (now (lz .entry))) (unpack (now (rx .entry)) (now (rz .entry))) r ⌝ }
 {
     let k = shortest(lx, lz, rx, rz);
     let mut n: u64 = 0;
+    let mut f: u64 = 0;
     let mut i = 0;
     while i < k {
-        n = (n + clash_u64(lx[i], lz[i], rx[i], rz[i])) % 2;
+        let a = lx[i];
+        let b = lz[i];
+        let c = rx[i];
+        let d = rz[i];
+        n = add_clashes(n, a, b, c, d);
+        f = turn_threes(f, a, b, c, d);
         i += 1;
     }
-    n == 0
+    factor_from(n, f)
 }
 
-// The product of two rows of the same length goes into a third place, and its exponent is returned.
-fn mul_row(
-    lx: &[u64],
-    lz: &[u64],
-    rx: &[u64],
-    rz: &[u64],
-    ox: &mut [u64],
-    oz: &mut [u64],
-) -> ComplexSign
-    requires { ⌜ SameLength (length (now lx)) (now lx) (now lz) (now rx) (now rz) (now ox) (now oz) ⌝ }
-    ensures { λ r. ⌜ Product (now (lx .entry)) (now (lz .entry)) (now (rx .entry)) (now (rz .entry)) (now (ox .exit)) (now (oz .exit)) (r .0) ⌝ }
+// Whether two rows commute: the number of clashes is even.
+pub fn commutes(lx: &[u64], lz: &[u64], rx: &[u64], rz: &[u64]) -> bool
+    ensures { λ r. ⌜ r ≡ eqb (clashes (unpack (now (lx .entry)) (now (lz .entry))) (unpack (now (rx .entry)) (now (rz .entry))) % 2) 0 ⌝ }
 {
-    let mut e: u64 = 0;
+    let f = mul_op_op_phase(lx, lz, rx, rz);
+    f.clashes % 2 == 0
+}
+
+// The product of two rows of the same length goes into a third place, and its factor is returned.
+fn mul_row(lx: &[u64], lz: &[u64], rx: &[u64], rz: &[u64], ox: &mut [u64], oz: &mut [u64]) -> Factor
+    requires { ⌜ SameLength (length (now lx)) (now lx) (now lz) (now rx) (now rz) (now ox) (now oz) ⌝ }
+    ensures { λ r. ⌜ Product (now (lx .entry)) (now (lz .entry)) (now (rx .entry)) (now (rz .entry)) (now (ox .exit)) (now (oz .exit)) r ⌝ }
+{
+    let mut n: u64 = 0;
+    let mut f: u64 = 0;
     let mut i = 0;
     while i < lx.len() {
         let a = lx[i];
         let b = lz[i];
         let c = rx[i];
         let d = rz[i];
-        e += mul_op_op_phase_u64(a, b, c, d);
+        n = add_clashes(n, a, b, c, d);
+        f = turn_threes(f, a, b, c, d);
         ox[i] = a ^ c;
         oz[i] = b ^ d;
         i += 1;
     }
-    ComplexSign((e % 4) as u8)
+    factor_from(n, f)
 }
 
 // The same at the first k words of each of the six parts.
@@ -121,9 +143,9 @@ fn mul_first(
     rz: &[u64],
     ox: &mut [u64],
     oz: &mut [u64],
-) -> ComplexSign
+) -> Factor
     requires { ⌜ k ≡ shortest₆ (now lx) (now lz) (now rx) (now rz) (now ox) (now oz) ⌝ }
-    ensures { λ r. ⌜ ProductAt 0 k (now (lx .entry)) (now (lz .entry)) (now (rx .entry)) (now (rz .entry)) (now (ox .entry)) (now (oz .entry)) (now (ox .exit)) (now (oz .exit)) (r .0) ⌝ }
+    ensures { λ r. ⌜ ProductAt 0 k (now (lx .entry)) (now (lz .entry)) (now (rx .entry)) (now (rz .entry)) (now (ox .entry)) (now (oz .entry)) (now (ox .exit)) (now (oz .exit)) r ⌝ }
 {
     mul_row(
         &lx[0..k],
@@ -135,7 +157,7 @@ fn mul_first(
     )
 }
 
-// The product of two rows is written into a third part, and its exponent returned.
+// The product of two rows is written into a third part, and its factor returned.
 pub fn mul_op_op(
     lx: &[u64],
     lz: &[u64],
@@ -143,8 +165,8 @@ pub fn mul_op_op(
     rz: &[u64],
     ox: &mut [u64],
     oz: &mut [u64],
-) -> ComplexSign
-    ensures { λ r. ⌜ RowProduct (now (lx .entry)) (now (lz .entry)) (now (rx .entry)) (now (rz .entry)) (now (ox .entry)) (now (oz .entry)) (now (ox .exit)) (now (oz .exit)) (r .0) ⌝ }
+) -> Factor
+    ensures { λ r. ⌜ RowProduct (now (lx .entry)) (now (lz .entry)) (now (rx .entry)) (now (rz .entry)) (now (ox .entry)) (now (oz .entry)) (now (ox .exit)) (now (oz .exit)) r ⌝ }
 {
     let a = shorter(ox.len(), oz.len());
     let b = shorter(rz.len(), a);
@@ -178,11 +200,12 @@ fn apart(s: usize, t: usize, w: usize) -> bool
 }
 
 // Words are read from t on and written from s on, w of them.
-fn imul_row(x: &mut [u64], z: &mut [u64], s: usize, t: usize, w: usize) -> ComplexSign
+fn imul_row(x: &mut [u64], z: &mut [u64], s: usize, t: usize, w: usize) -> Factor
     requires { ⌜ Room w s t (now x) (now z) ⌝ }
-    ensures { λ r. ⌜ Multiplied w s t (now (x .entry)) (now (z .entry)) (now (x .exit)) (now (z .exit)) (r .0) ⌝ }
+    ensures { λ r. ⌜ Multiplied w s t (now (x .entry)) (now (z .entry)) (now (x .exit)) (now (z .exit)) r ⌝ }
 {
-    let mut e: u64 = 0;
+    let mut n: u64 = 0;
+    let mut f: u64 = 0;
     let mut i = 0;
     while i < w {
         let a = s + i;
@@ -191,18 +214,19 @@ fn imul_row(x: &mut [u64], z: &mut [u64], s: usize, t: usize, w: usize) -> Compl
         let lz = z[a];
         let rx = x[b];
         let rz = z[b];
-        e += mul_op_op_phase_u64(lx, lz, rx, rz);
+        n = add_clashes(n, lx, lz, rx, rz);
+        f = turn_threes(f, lx, lz, rx, rz);
         x[a] = lx ^ rx;
         z[a] = lz ^ rz;
         i += 1;
     }
-    ComplexSign((e % 4) as u8)
+    factor_from(n, f)
 }
 
 // A row is multiplied in place by another of the same set, w words from s on by w words from t on; where these do not lie inside, or
 // overlap, nothing is done.
-pub fn imul_op_op(x: &mut [u64], z: &mut [u64], s: usize, t: usize, w: usize) -> ComplexSign
-    ensures { λ r. ⌜ ProductIn w s t (now (x .entry)) (now (z .entry)) (now (x .exit)) (now (z .exit)) (r .0) ⌝ }
+pub fn imul_op_op(x: &mut [u64], z: &mut [u64], s: usize, t: usize, w: usize) -> Factor
+    ensures { λ r. ⌜ ProductIn w s t (now (x .entry)) (now (z .entry)) (now (x .exit)) (now (z .exit)) r ⌝ }
 {
     if lies(s, w, x.len(), z.len()) {
         if lies(t, w, x.len(), z.len()) {
@@ -211,7 +235,10 @@ pub fn imul_op_op(x: &mut [u64], z: &mut [u64], s: usize, t: usize, w: usize) ->
             }
         }
     }
-    ComplexSign(0)
+    Factor {
+        phase: ComplexSign(0),
+        clashes: 0,
+    }
 }
 
 // A row acts on a basis state of the same length, which is changed in place; the exponent is returned.

@@ -190,13 +190,14 @@ pub fn read_on_state(
     }
 }
 
-// ---- pair: n X Z P X Z P lx,lz,lp
+// ---- pair: n X Z P X Z P lx,lz,lp,lc
 
-// The lengths of the two sets, and of the set that is lent for the product.
+// The lengths of the two sets, of the set that is lent for the product, and of the numbers that are.
 pub struct Pairwise {
     pub l: Lengths,
     pub r: Lengths,
     pub o: Lengths,
+    pub k: usize,
     pub c: Cursor,
 }
 
@@ -219,13 +220,20 @@ pub fn read_pairwise(
     let c = h.c;
     let o = read_lengths(buf, c, l.n);
     let c = o.c;
+    let k = o.k;
     let r = h.l;
     let o = o.l;
-    Pairwise { l, r, o, c }
+    Pairwise { l, r, o, k, c }
 }
 
-// lx,lz,lp as the line's last field
-fn read_lengths(buf: &mut [u8; ROOM], c: Cursor, n: usize) -> Given
+struct Lent {
+    l: Lengths,
+    k: usize,
+    c: Cursor,
+}
+
+// lx,lz,lp,lc as the line's last field
+fn read_lengths(buf: &mut [u8; ROOM], c: Cursor, n: usize) -> Lent
     ensures { λ r. ⌜ Onward c (r .c) ⌝ }
 {
     let x = linein::size_field(buf, c, WORDS);
@@ -234,12 +242,15 @@ fn read_lengths(buf: &mut [u8; ROOM], c: Cursor, n: usize) -> Given
     let c = z.c;
     let p = linein::size_after(buf, c, b',', ROWS);
     let c = p.c;
+    let k = linein::size_after(buf, c, b',', ROWS);
+    let c = k.c;
     let l = Lengths {
         n,
         x: x.value,
         z: z.value,
         p: p.value,
     };
+    let k = k.value;
     let c = linein::ends(c);
-    Given { l, c }
+    Lent { l, k, c }
 }

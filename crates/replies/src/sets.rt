@@ -3,7 +3,7 @@ ghost use Rattle.encoding.specs.Set.{mem};
 ghost use Rattle.cmpnt_list.specs.Calls.{SetQubit, CompatibilityMatrix, MulPairwise, ImulState};
 ghost use Rattle.terms.specs.Calls.{Multiplies, Reduces, ReducesAll};
 ghost use Rattle.replay.specs.Check.{task, claim, Checked};
-ghost use Rattle.answers.specs.Answers.{changedLine, actLine, matrixLine, reduceLine, checkLine};
+ghost use Rattle.answers.specs.Answers.{changedLine, pairLine, productLine, actLine, matrixLine, reduceLine, checkLine};
 ghost use Rattle.replies.specs.Replied.{Replied};
 use lineout::ROOM;
 use pauli::PauliMatrix;
@@ -37,10 +37,10 @@ pub fn multiply(
     a: RowNumber,
     b: RowNumber,
 ) -> usize
-    ensures { λ r. ⌜ Replied (Multiplies n (a .0) (b .0) (mem (now (x .entry)) (now (z .entry)) (now (p .entry))) (mem (now (x .exit)) (now (z .exit)) (now (p .exit)))) (λ d. changedLine d (now (x .exit)) (now (z .exit)) (now (p .exit))) (now (out .entry)) at (now (out .exit)) r ⌝ }
+    ensures { λ r. ⌜ Replied (Multiplies n (a .0) (b .0) (mem (now (x .entry)) (now (z .entry)) (now (p .entry))) (mem (now (x .exit)) (now (z .exit)) (now (p .exit)))) (λ d. productLine d (now (x .exit)) (now (z .exit)) (now (p .exit))) (now (out .entry)) at (now (out .exit)) r ⌝ }
 {
     let d = terms::imul(n, x, z, p, a, b);
-    answers::changed(out, at, d, x, z, p)
+    answers::multiplied(out, at, d, x, z, p)
 }
 
 pub fn pairwise(
@@ -56,11 +56,12 @@ pub fn pairwise(
     x: &mut [u64],
     z: &mut [u64],
     p: &mut [u8],
+    clashes: &mut [u16],
 ) -> usize
-    ensures { λ r. ⌜ Replied (MulPairwise n (mem (now (lx .entry)) (now (lz .entry)) (now (lp .entry))) (mem (now (rx .entry)) (now (rz .entry)) (now (rp .entry))) (mem (now (x .entry)) (now (z .entry)) (now (p .entry))) (mem (now (x .exit)) (now (z .exit)) (now (p .exit)))) (λ a. changedLine a (now (x .exit)) (now (z .exit)) (now (p .exit))) (now (out .entry)) at (now (out .exit)) r ⌝ }
+    ensures { λ r. ⌜ Replied (MulPairwise n (mem (now (lx .entry)) (now (lz .entry)) (now (lp .entry))) (mem (now (rx .entry)) (now (rz .entry)) (now (rp .entry))) (mem (now (x .entry)) (now (z .entry)) (now (p .entry))) (mem (now (x .exit)) (now (z .exit)) (now (p .exit))) (now (clashes .entry)) (now (clashes .exit))) (λ a. pairLine a (now (x .exit)) (now (z .exit)) (now (p .exit)) (now (clashes .exit))) (now (out .entry)) at (now (out .exit)) r ⌝ }
 {
-    let a = cmpnt_list::cmpnts_mul_pairwise(n, lx, lz, lp, rx, rz, rp, x, z, p);
-    answers::changed(out, at, a, x, z, p)
+    let a = cmpnt_list::cmpnts_mul_pairwise(n, lx, lz, lp, rx, rz, rp, x, z, p, clashes);
+    answers::paired(out, at, a, x, z, p, clashes)
 }
 
 pub fn act(

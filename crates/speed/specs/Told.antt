@@ -6,6 +6,8 @@ use lib.Ieee.{Float}
 use Rattle.encoding.specs.declared.Answer.{Answer}
 use Rattle.encoding.specs.declared.Answer.the-variants as answer
 use Rattle.terms.specs.Calls.{reducedNumber}
+use Rattle.terms.specs.declared.Clashes.{Clashes}
+use Rattle.terms.specs.declared.Clashes.the-variants as clash
 use Rattle.terms.specs.declared.Canonicalized.{Canonicalized}
 use Rattle.terms.specs.declared.Canonicalized.the-variants as reduced
 use Rattle.mat_elem_float.specs.declared.Element.{Element}
@@ -25,6 +27,20 @@ numberOf (answer.Refused k) = k
 
 abbrev pub Number : ℕ → Answer → Type 0
 Number r a = r ≡ numberOf a
+
+-- ---- a product in place: the number of clashes; where it is refused the number stays as it was
+
+abbrev pub productNumber : Clashes → ℕ
+productNumber (clash.Number c) = 0
+productNumber (clash.Refused k) = k
+
+abbrev pub clashesOr : ℕ → Clashes → ℕ
+clashesOr old (clash.Number c) = c
+clashesOr old (clash.Refused k) = old
+
+pub record Multiplied (clashes clashes′ r : ℕ) (a : Clashes) : Type 0 where
+  pub number : r ≡ productNumber a
+  pub clashed : clashes′ ≡ clashesOr clashes a
 
 -- ---- a reduction: the entry count and t, the capacity (refusal 8) in the place of the count; what is not given stays as it was
 

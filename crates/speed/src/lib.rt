@@ -4,11 +4,12 @@ ghost use Rattle.encoding.specs.Set.{mem};
 ghost use Rattle.cmpnt_list.specs.Calls.{CompatibilityMatrix, MulPairwise};
 ghost use Rattle.terms.specs.Calls.{Multiplies, ReducesAll, reducedNumber};
 ghost use Rattle.mat_elem_float.specs.Product.{MatElem};
-ghost use Rattle.speed.specs.Told.{Told, Number, numberOf, Counted, entriesOr, pivotsOr, Parted, elementNumber, realOr, imagOr};
+ghost use Rattle.speed.specs.Told.{Told, Number, numberOf, productNumber, clashesOr, Multiplied, Counted, entriesOr, pivotsOr, Parted, elementNumber, realOr, imagOr};
 use encoding::Answer;
 use mat_elem_float::Element;
 use pauli::RowNumber;
 use terms::Canonicalized;
+use terms::Clashes;
 
 // What stands for no block beside the refusal numbers.
 pub const NO_BLOCK: u8 = 255;
@@ -48,10 +49,29 @@ pub extern "C" fn speed_cmpnts_mul_pairwise(
     ox: &mut [u64],
     oz: &mut [u64],
     op: &mut [u8],
+    clashes: &mut [u16],
 ) -> u8
-    ensures { λ r. ⌜ Told (MulPairwise n (mem (now (lx .entry)) (now (lz .entry)) (now (lp .entry))) (mem (now (rx .entry)) (now (rz .entry)) (now (rp .entry))) (mem (now (ox .entry)) (now (oz .entry)) (now (op .entry))) (mem (now (ox .exit)) (now (oz .exit)) (now (op .exit)))) (Number r) ⌝ }
+    ensures { λ r. ⌜ Told (MulPairwise n (mem (now (lx .entry)) (now (lz .entry)) (now (lp .entry))) (mem (now (rx .entry)) (now (rz .entry)) (now (rp .entry))) (mem (now (ox .entry)) (now (oz .entry)) (now (op .entry))) (mem (now (ox .exit)) (now (oz .exit)) (now (op .exit))) (now (clashes .entry)) (now (clashes .exit))) (Number r) ⌝ }
 {
-    number(cmpnt_list::cmpnts_mul_pairwise(n, lx, lz, lp, rx, rz, rp, ox, oz, op))
+    number(cmpnt_list::cmpnts_mul_pairwise(n, lx, lz, lp, rx, rz, rp, ox, oz, op, clashes))
+}
+
+struct Product {
+    number: u8,
+    clashes: u16,
+}
+
+// What is seen of a product in place, with the number of clashes that stays where it gives none.
+fn multiplied(a: Clashes, clashes: u16) -> Product
+    ensures { λ r. ⌜ (r .number ≡ productNumber a) × (r .clashes ≡ clashesOr clashes a) ⌝ }
+{
+    match a {
+        Clashes::Number(k) => Product {
+            number: 0,
+            clashes: k,
+        },
+        Clashes::Refused(k) => Product { number: k, clashes },
+    }
 }
 
 #[no_mangle]
@@ -62,10 +82,14 @@ pub extern "C" fn speed_imul(
     phases: &mut [u8],
     a: usize,
     b: usize,
+    clashes: &mut u16,
 ) -> u8
-    ensures { λ r. ⌜ Told (Multiplies n a b (mem (now (x .entry)) (now (z .entry)) (now (phases .entry))) (mem (now (x .exit)) (now (z .exit)) (now (phases .exit)))) (Number r) ⌝ }
+    ensures { λ r. ⌜ Told (Multiplies n a b (mem (now (x .entry)) (now (z .entry)) (now (phases .entry))) (mem (now (x .exit)) (now (z .exit)) (now (phases .exit)))) (Multiplied (now (clashes .entry)) (now (clashes .exit)) r) ⌝ }
 {
-    number(terms::imul(n, x, z, phases, RowNumber(a), RowNumber(b)))
+    let d = terms::imul(n, x, z, phases, RowNumber(a), RowNumber(b));
+    let s = multiplied(d, *clashes);
+    *clashes = s.clashes;
+    s.number
 }
 
 struct Counts {

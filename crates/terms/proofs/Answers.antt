@@ -12,10 +12,9 @@ use borrow.Author.Tests.{leb-false}
 use Rattle.pauli.specs.Row.{Row, mulRow, bitRow}
 use Rattle.encoding.specs.Limits.{maxQubits, maxRows, wordsOf}
 use Rattle.encoding.specs.Set.{Mem, count, rowsOf, lay, Valid, Sound}
-use Rattle.encoding.specs.Refusals.{fault, least, tooLarge, setTests, numberTests, doneOr, leftOr, rowsTests}
-use Rattle.encoding.specs.declared.Answer.the-variants as answer
+use Rattle.encoding.specs.Refusals.{fault, least, tooLarge, setTests, numberTests, leftOr, rowsTests}
 use Rattle.encoding.proofs.Scan.{none-of}
-use Rattle.encoding.proofs.Faults.{both-parts, least-none, not-large, number-is, refused, kept}
+use Rattle.encoding.proofs.Faults.{both-parts, least-none, not-large, number-is, refusing}
 use Rattle.encoding.proofs.Memory.{laid}
 use Rattle.encoding.proofs.Sets.{sound-of}
 use Rattle.encoding.proofs.Parts.{length-list, getD-list}
@@ -30,11 +29,13 @@ use Rattle.terms.specs.declared.reduce.Progress.{Progress}
 use Rattle.terms.specs.declared.Canonicalized.{Canonicalized}
 use Rattle.terms.specs.declared.Canonicalized.the-variants.{Done, Full, Refused}
 use Rattle.terms.specs.Refused.{listTests, reduceTests, Reducible}
-use Rattle.terms.specs.Leaves.{mulIn}
+use Rattle.pauli.specs.Rows.{clashesOf}
+use Rattle.terms.specs.declared.Clashes.the-variants as clash
+use Rattle.terms.specs.Leaves.{mulIn, clashesIn}
 use Rattle.terms.specs.Work.{Below, runOf, outcome, start, Does, BothIn, ListsIn}
-use Rattle.terms.specs.Calls.{Multiplies, answerOf, numberFor, rowsLeft, entriesLeft, Leaves, outcomeOf, wholeOutcome, upTo}
+use Rattle.terms.specs.Calls.{clashesOr, Multiplies, answerOf, numberFor, rowsLeft, entriesLeft, Leaves, outcomeOf, wholeOutcome, upTo}
 use Rattle.terms.proofs.Scans.{asked-of}
-use Rattle.terms.proofs.RowView.{mul-view}
+use Rattle.terms.proofs.RowView.{mul-view, clashes-view}
 
 -- ---- what no refusal leaves
 
@@ -70,18 +71,19 @@ lists-in {n} {order} {listed} {extra} {M} r =
 -- ---- the product of two rows
 
 module _ (n a b : ℕ) (M : Mem) where
-  pub imul-refused : (f : ℕ) → f ≡ fault (rowsTests n M a b) → (f ≡ 0 → ⊥) → Multiplies n a b M M (answer.Refused f)
-  imul-refused f e ne =
+  pub imul-refused : {f : ℕ} → f ≡ fault (rowsTests n M a b) → (f ≡ 0 → ⊥) → Multiplies n a b M M (clash.Refused f)
+  imul-refused e ne =
       record {
-        answer = refused f ne ∙ ap doneOr e;
-        rows = kept f M (lay n (count M) (mulAt (mulRow n) (rowsOf n M) a b)) ne ∙ ap (λ k. leftOr k M (lay n (count M) (mulAt (mulRow n) (rowsOf n M) a b))) e;
+        answer = refusing clash.Refused (λ k. clashesOr k (clashesOf n (rowsOf n M a) (rowsOf n M b))) (λ k. refl) e ne;
+        rows = refusing (λ k. M) (λ k. leftOr k M (lay n (count M) (mulAt (mulRow n) (rowsOf n M) a b))) (λ k. refl) e ne;
       }
 
-  pub imul-done : {f : ℕ} {M′ : Mem} → f ≡ fault (rowsTests n M a b) → f ≡ 0 → BothIn n a b M → M′ ≡ mulIn n a b M → Multiplies n a b M M′ answer.Done
-  imul-done {f} {M′} e z h q =
+  pub imul-done : {f c : ℕ} {M′ : Mem} → f ≡ fault (rowsTests n M a b) → f ≡ 0 → BothIn n a b M → (M′ ≡ mulIn n a b M) × (c ≡ clashesIn n a b M)
+      → Multiplies n a b M M′ (clash.Number c)
+  imul-done {f} {c} {M′} e z h q =
       record {
-        answer = ap doneOr (sym z ∙ e);
-        rows = q ∙ mul-view (h .sound) a b (h .a-in) (h .b-in) .laid-out ∙ ap (λ k. leftOr k M (lay n (count M) (mulAt (mulRow n) (rowsOf n M) a b))) (sym z ∙ e);
+        answer = ap clash.Number (q .1 ∙ clashes-view (h .sound) a b (h .a-in) (h .b-in)) ∙ ap (λ k. clashesOr k (clashesOf n (rowsOf n M a) (rowsOf n M b))) (sym z ∙ e);
+        rows = q .0 ∙ mul-view (h .sound) a b (h .a-in) (h .b-in) .laid-out ∙ ap (λ k. leftOr k M (lay n (count M) (mulAt (mulRow n) (rowsOf n M) a b))) (sym z ∙ e);
       }
 
 -- ---- reduction

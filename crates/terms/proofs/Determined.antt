@@ -4,12 +4,12 @@ use mathlib.Core.List.{List}
 use Prim.Native.Nat.{ℕ}
 use Rattle.pauli.specs.Row.{Row}
 use Rattle.encoding.specs.Set.{Mem}
-use Rattle.encoding.specs.declared.Answer.{Answer}
 use Rattle.reduction.specs.Capacity.{Reduced}
 use Rattle.terms.specs.Calls.{Multiplies, Leaves}
+use Rattle.terms.specs.declared.Clashes.{Clashes}
 use Rattle.terms.specs.declared.Canonicalized.{Canonicalized}
 
-pub imul-one : {n a b : ℕ} {M M₁ M₂ : Mem} {r s : Answer} → Multiplies n a b M M₁ r → Multiplies n a b M M₂ s → (r ≡ s) × (M₁ ≡ M₂)
+pub imul-one : {n a b : ℕ} {M M₁ M₂ : Mem} {r s : Clashes} → Multiplies n a b M M₁ r → Multiplies n a b M M₂ s → (r ≡ s) × (M₁ ≡ M₂)
 imul-one p q = (p .answer ∙ sym (q .answer), p .rows ∙ sym (q .rows))
 
 -- `canonicalize` and `canonicalize_all`

@@ -12,7 +12,7 @@ use borrow.Rule.Slice.PartMut.{putMid}
 use lib.Arith.{lt-of-le-ne}
 use lib.Dec.{ltb}
 use lib.ListN.{length, getD, set}
-use Rattle.pauli.specs.Pauli.{Pauli, hasX, hasZ, mul, phases}
+use Rattle.pauli.specs.Pauli.{Pauli, hasX, hasZ, mul, phases, clashes}
 use Rattle.encoding.specs.Limits.{maxQubits, maxRows, wordsOf}
 use Rattle.encoding.specs.Words.{unpack, pack}
 use Rattle.encoding.specs.Set.{part, row, Mem, mem, count, Sound}
@@ -22,9 +22,10 @@ use Rattle.encoding.proofs.Parts.{row-end, row-long}
 use Rattle.encoding.proofs.Memory.{mem-eq}
 use Rattle.encoding.proofs.Reading.{length-pack}
 use Rattle.products.specs.Leaves.{Outside, inside, ProductIn}
+use Rattle.products.specs.declared.Factor.{Factor}
 use Rattle.products.proofs.InPlace.{inside-is}
 use Rattle.products.proofs.PartLaws.{part-put, outside-put, put-is}
-use Rattle.terms.specs.Leaves.{bothIn, putRow, mulIn, InRows, RowsMultiplied}
+use Rattle.terms.specs.Leaves.{bothIn, putRow, mulIn, clashesIn, InRows, RowsMultiplied}
 
 -- ---- both rows lie inside
 
@@ -49,9 +50,9 @@ module _ {w a b : ℕ} {M : Mem} (h : InRows w a b M) where
       })
 
   -- what the leaf and the byte written leave
-  pub rows-multiplied : {xs′ zs′ : List ℕ} {e p : ℕ} → ProductIn w (a * w) (b * w) (M .xs) (M .zs) xs′ zs′ e → p ≡ (getD (M .es) a 0 + getD (M .es) b 0 + e) % 4
-      → RowsMultiplied w a b M (mem xs′ zs′ (set (M .es) a p))
-  rows-multiplied {xs′} {zs′} {e} q f = record { exponent = e; words = q .done rows-inside; bytes = ap (set (M .es) a) f }
+  pub rows-multiplied : {xs′ zs′ : List ℕ} {e : Factor} {p : ℕ} → ProductIn w (a * w) (b * w) (M .xs) (M .zs) xs′ zs′ e → p ≡ (getD (M .es) a 0 + getD (M .es) b 0 + e .phase .0) % 4
+      → RowsMultiplied w a b M (mem xs′ zs′ (set (M .es) a p)) (e .clashes)
+  rows-multiplied {xs′} {zs′} {e} q f = record { factor = e; words = q .done rows-inside; bytes = ap (set (M .es) a) f; number = refl }
 
 pub in-rows : (n : ℕ) (M : Mem) (w a b : ℕ) → w ≡ wordsOf n → fault (outTests n (count M) M) ≡ 0 → a < count M → b < count M → InRows w a b M
 in-rows n M w a b hw e ha hb =
@@ -68,21 +69,21 @@ in-rows n M w a b hw e ha hb =
 -- ---- `mulIn`: nothing where not both are in
 
 module _ (n a b : ℕ) (M : Mem) where
-  stays : bothIn n M a b ≡ false → M ≡ mulIn n a b M
-  unfolding mulIn
+  stays : bothIn n M a b ≡ false → (M ≡ mulIn n a b M) × (0 ≡ clashesIn n a b M)
+  unfolding mulIn clashesIn
   stays e =
       let w = wordsOf n in
       let A = unpack (row w a (M .xs)) (row w a (M .zs)) in
       let B = unpack (row w b (M .xs)) (row w b (M .zs)) in
-      sym (ap (λ t. cond t (mem (putRow w a (pack hasX w (mul A B)) (M .xs)) (putRow w a (pack hasZ w (mul A B)) (M .zs)) (set (M .es) a ((getD (M .es) a 0 + getD (M .es) b 0 + phases A B) % 4))) M) e)
+      (sym (ap (λ t. cond t (mem (putRow w a (pack hasX w (mul A B)) (M .xs)) (putRow w a (pack hasZ w (mul A B)) (M .zs)) (set (M .es) a ((getD (M .es) a 0 + getD (M .es) b 0 + phases A B) % 4))) M) e), sym (ap (λ t. cond t (clashes A B % 65536) 0) e))
 
-  pub no-shape : (fault (outTests n (count M) M) ≡ 0 → ⊥) → M ≡ mulIn n a b M
+  pub no-shape : (fault (outTests n (count M) M) ≡ 0 → ⊥) → (M ≡ mulIn n a b M) × (0 ≡ clashesIn n a b M)
   no-shape ne = stays (ap (λ t. t && (ltb a (count M) && ltb b (count M))) (ne-eqb _ 0 ne))
 
-  pub no-a : fault (outTests n (count M) M) ≡ 0 → count M ≤ a → M ≡ mulIn n a b M
+  pub no-a : fault (outTests n (count M) M) ≡ 0 → count M ≤ a → (M ≡ mulIn n a b M) × (0 ≡ clashesIn n a b M)
   no-a e h = stays (ap₂ (λ s t. s && (t && ltb b (count M))) (eq-eqb _ 0 e) (le-ltb a (count M) h))
 
-  pub no-b : fault (outTests n (count M) M) ≡ 0 → a < count M → count M ≤ b → M ≡ mulIn n a b M
+  pub no-b : fault (outTests n (count M) M) ≡ 0 → a < count M → count M ≤ b → (M ≡ mulIn n a b M) × (0 ≡ clashesIn n a b M)
   no-b e g h = stays (ap₂ (λ s t. s && t) (eq-eqb _ 0 e) (ap₂ (λ s t. s && t) (lt-ltb a (count M) g) (le-ltb b (count M) h)))
 
 -- ---- and the product where both are
@@ -91,24 +92,32 @@ module _ (n a b : ℕ) (M : Mem) (e : fault (outTests n (count M) M) ≡ 0) (ha 
   both : bothIn n M a b ≡ true
   both = ap₂ (λ s t. s && t) (eq-eqb _ 0 e) (ap₂ (λ s t. s && t) (lt-ltb a (count M) ha) (lt-ltb b (count M) hb))
 
-  pub becomes : (w : ℕ) → w ≡ wordsOf n → {M′ : Mem} → RowsMultiplied w a b M M′ → M′ ≡ mulIn n a b M
+  pub clashes-in : clashesIn n a b M ≡ clashes (unpack (row (wordsOf n) a (M .xs)) (row (wordsOf n) a (M .zs))) (unpack (row (wordsOf n) b (M .xs)) (row (wordsOf n) b (M .zs))) % 65536
+  unfolding clashesIn
+  clashes-in =
+      let w = wordsOf n in
+      ap (λ t. cond t (clashes (unpack (row w a (M .xs)) (row w a (M .zs))) (unpack (row w b (M .xs)) (row w b (M .zs))) % 65536) 0) both
+
+  pub becomes : (w : ℕ) → w ≡ wordsOf n → {M′ : Mem} {c : ℕ} → RowsMultiplied w a b M M′ c → (M′ ≡ mulIn n a b M) × (c ≡ clashesIn n a b M)
   unfolding mulIn
-  becomes w hw {M′} q =
+  becomes w hw {M′} {c} q =
       let v = wordsOf n in
       let A = unpack (row v a (M .xs)) (row v a (M .zs)) in
       let B = unpack (row v b (M .xs)) (row v b (M .zs)) in
-      let q′ : RowsMultiplied v a b M M′ = subst (λ k. RowsMultiplied k a b M M′) hw q in
+      let q′ : RowsMultiplied v a b M M′ c = subst (λ k. RowsMultiplied k a b M M′ c) hw q in
       let P = q′ .words .here in
       let l : length (row v a (M .xs)) ≡ v = row-long (count M) v a (M .xs) ha (shape-of n (count M) M e .x-long) in
       let product-now : M′ ≡ mem (putRow v a (pack hasX v (mul A B)) (M .xs)) (putRow v a (pack hasZ v (mul A B)) (M .zs)) (set (M .es) a ((getD (M .es) a 0 + getD (M .es) b 0 + phases A B) % 4))
       = mem-eq
       (put-is (a * v) v (q′ .words .x-rest) ∙ ap (putMid (a * v) v (M .xs)) (P .x-words ∙ ap (λ k. pack hasX k (mul A B)) l))
       (put-is (a * v) v (q′ .words .z-rest) ∙ ap (putMid (a * v) v (M .zs)) (P .z-words ∙ ap (λ k. pack hasZ k (mul A B)) l))
-      (q′ .bytes ∙ ap (set (M .es) a) (omega (arith, P .exponent))) in
-      product-now ∙ sym (ap (λ t. cond t (mem (putRow v a (pack hasX v (mul A B)) (M .xs)) (putRow v a (pack hasZ v (mul A B)) (M .zs)) (set (M .es) a ((getD (M .es) a 0 + getD (M .es) b 0 + phases A B) % 4))) M) both)
+      (q′ .bytes ∙ ap (set (M .es) a) (omega (arith, P .factor .exponent))) in (
+        product-now ∙ sym (ap (λ t. cond t (mem (putRow v a (pack hasX v (mul A B)) (M .xs)) (putRow v a (pack hasZ v (mul A B)) (M .zs)) (set (M .es) a ((getD (M .es) a 0 + getD (M .es) b 0 + phases A B) % 4))) M) both),
+        q′ .number ∙ P .factor .number ∙ sym clashes-in,
+      )
 
   -- and the other way: what `mulIn` says is the product
-  pub mul-in-is : RowsMultiplied (wordsOf n) a b M (mulIn n a b M)
+  pub mul-in-is : RowsMultiplied (wordsOf n) a b M (mulIn n a b M) (clashes (unpack (row (wordsOf n) a (M .xs)) (row (wordsOf n) a (M .zs))) (unpack (row (wordsOf n) b (M .xs)) (row (wordsOf n) b (M .zs))) % 65536)
   unfolding mulIn
   mul-in-is =
       let w = wordsOf n in
@@ -127,16 +136,17 @@ module _ (n a b : ℕ) (M : Mem) (e : fault (outTests n (count M) M) ≡ 0) (ha 
       = λ f us h. subst (λ k. Outside s (s + w) us (putMid s k us (pack f w (mul A B)))) cancel
       (outside-put s (s + w) us (pack f w (mul A B)) (omega arith) (omega (arith, end)) (length-pack f w (mul A B) ∙ sym cancel)) in
       let N = mem (putRow w a (pack hasX w (mul A B)) (M .xs)) (putRow w a (pack hasZ w (mul A B)) (M .zs)) (set (M .es) a ((getD (M .es) a 0 + getD (M .es) b 0 + phases A B) % 4)) in
-      subst (λ t. RowsMultiplied w a b M (cond t N M)) (sym both)
+      subst (λ t. RowsMultiplied w a b M (cond t N M) (clashes A B % 65536)) (sym both)
       (record {
-        exponent = phases A B % 4;
+        factor = record { phase = record { 0 = phases A B % 4 }; clashes = clashes A B % 65536 };
         words =
             record {
-              here = record { x-words = at hasX (M .xs) (sh .x-long); z-words = at hasZ (M .zs) (sh .z-long); exponent = refl };
+              here = record { x-words = at hasX (M .xs) (sh .x-long); z-words = at hasZ (M .zs) (sh .z-long); factor = record { exponent = refl; number = refl } };
               x-rest = out hasX (M .xs) (sh .x-long);
               z-rest = out hasZ (M .zs) (sh .z-long);
             };
         bytes = ap (set (M .es) a) (omega arith);
+        number = refl;
       })
 
 -- a row set within the limits has the shape

@@ -1,28 +1,52 @@
--- `imul` in the words of document 01: row a becomes the product of the matrices, and no other row changes. Assumes nothing.
+-- `imul` in the words of document 01: row a becomes the product of the matrices, no other row changes, and the number says whether the rows commuted.
+-- Assumes nothing.
 use mathlib.Core.Path.{_≡_, refl, sym, ap, _∙_, subst}
 use mathlib.Core.Bool.{cond, _||_}
-use Prim.Native.Nat.{ℕ, _*_, _≤_, _<_}
+use mathlib.Core.Logic.{_↔_}
+use Prim.Native.Nat.{ℕ, zero, suc, _*_, _%_, _≤_, _<_}
 use native.Mathlib.Omega.{arith}
 use borrow.Author.Tests.{leb-false, eq-eqb, ne-eqb}
 use Rattle.pauli.specs.Row.{Row, mulRow}
-use Rattle.pauli.specs.Matrix.{times, Same, rowMatrix}
-use Rattle.pauli.proofs.Meaning.{row-product}
+use Rattle.pauli.specs.Rows.{clashesOf}
+use Rattle.pauli.specs.Matrix.{times, Same, Commute, Anticommute, rowMatrix}
+use Rattle.pauli.proofs.Meaning.{row-product, clashes-even, clashes-odd}
+use Rattle.pauli.proofs.RowTests.{row-with-itself}
 use Rattle.encoding.proofs.Sets.{rows-in}
 use Rattle.encoding.specs.Limits.{wordsOf}
 use Rattle.encoding.specs.Set.{Mem, count, rowsOf, lay}
 use Rattle.encoding.specs.Refusals.{fault, setTests, numberTests, rowsTests, tooLarge, leftOr}
-use Rattle.encoding.specs.declared.Answer.the-variants.{Done}
-use Rattle.encoding.proofs.Faults.{joined-fault, least-none, not-large, number-is, done-none}
+use Rattle.encoding.proofs.Faults.{joined-fault, least-none, not-large, number-is}
 use Rattle.encoding.proofs.Scan.{none-of}
 use Rattle.encoding.proofs.Memory.{Proper, read-lay}
 use Rattle.encoding.proofs.Sets.{read-proper}
 use Rattle.reduction.specs.Rule.{mulAt}
-use Rattle.terms.specs.Calls.{Multiplies}
+use Rattle.terms.specs.Calls.{Multiplies, clashesOr}
+use Rattle.terms.specs.declared.Clashes.the-variants as clash
 use Rattle.terms.proofs.Finished.{proper-mul}
 
-module _ (n a b : ℕ) {M M′ : Mem} (c : Multiplies n a b M M′ Done) where
+given : (f v d : ℕ) → clashesOr f v ≡ clash.Number d → (f ≡ 0) × (v ≡ d)
+given zero v d e = (refl, cc)
+given (suc k) v d e = let z : _≡_ {A = ℕ} 0 1 = cc in absurd (omega arith)
+
+module _ (n a b : ℕ) {M M′ : Mem} {d : ℕ} (c : Multiplies n a b M M′ (clash.Number d)) where
   no-fault : fault (rowsTests n M a b) ≡ 0
-  no-fault = done-none (fault (rowsTests n M a b)) (sym (c .answer))
+  no-fault = given (fault (rowsTests n M a b)) (clashesOf n (rowsOf n M a) (rowsOf n M b)) d (sym (c .answer)) .0
+
+  -- the number is that of the qubits where the rows, as they were, clash
+  pub imul-number : d ≡ clashesOf n (rowsOf n M a) (rowsOf n M b)
+  imul-number = sym (given (fault (rowsTests n M a b)) (clashesOf n (rowsOf n M a) (rowsOf n M b)) d (sym (c .answer)) .1)
+
+  -- even exactly when their matrices commute, odd exactly when they anticommute, and 0 for a row by itself
+  pub imul-commuted : Commute n (rowMatrix n (rowsOf n M a)) (rowMatrix n (rowsOf n M b)) ↔ (d % 2 ≡ 0)
+  imul-commuted =
+      subst (λ (k : ℕ). Commute n (rowMatrix n (rowsOf n M a)) (rowMatrix n (rowsOf n M b)) ↔ (k % 2 ≡ 0)) (sym imul-number) (clashes-even n (rowsOf n M a) (rowsOf n M b))
+
+  pub imul-anticommuted : Anticommute n (rowMatrix n (rowsOf n M a)) (rowMatrix n (rowsOf n M b)) ↔ (d % 2 ≡ 1)
+  imul-anticommuted =
+      subst (λ (k : ℕ). Anticommute n (rowMatrix n (rowsOf n M a)) (rowMatrix n (rowsOf n M b)) ↔ (k % 2 ≡ 1)) (sym imul-number) (clashes-odd n (rowsOf n M a) (rowsOf n M b))
+
+  pub imul-itself : a ≡ b → d ≡ 0
+  imul-itself e = imul-number ∙ ap (λ (k : ℕ). clashesOf n (rowsOf n M a) (rowsOf n M k)) (sym e) ∙ row-with-itself n (rowsOf n M a)
 
   inside : (a < count M) × (b < count M)
   inside =

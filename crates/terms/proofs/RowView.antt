@@ -18,18 +18,20 @@ use Rattle.pauli.proofs.RowLaws.{row-eq, x-bit, z-bit, hasX-of, hasZ-of, pad-mu
 use Rattle.encoding.specs.Limits.{wordsOf}
 use Rattle.encoding.specs.Words.{bitAt, unpack, qubits, pack}
 use Rattle.encoding.specs.Set.{row, Mem, mem, count, rowsIn, rowsOf, lay, Packed, Valid, Sound}
-use Rattle.encoding.proofs.RowWords.{inWords, phase-is, product-is}
+use Rattle.encoding.proofs.RowWords.{inWords, phase-is, product-is, clashes-fit}
 use Rattle.encoding.proofs.Reading.{qubits-pack}
 use Rattle.encoding.proofs.Qubits.{qubit-at}
 use Rattle.encoding.proofs.Memory.{mem-eq, x-row, z-row, row-count, laid}
 use Rattle.products.specs.Leaves.{Multiplied}
+use Rattle.products.specs.declared.Factor.{Factor}
+use Rattle.pauli.specs.Rows.{clashesOf}
 use Rattle.products.proofs.PartLaws.{row-other}
 use Rattle.reduction.specs.Rule.{mulAt, first}
 use Rattle.pauli.proofs.Bools.{cond-ind}
-use Rattle.terms.specs.Leaves.{columnOf, bitIn, firstPlace, mulIn}
+use Rattle.terms.specs.Leaves.{columnOf, bitIn, firstPlace, mulIn, clashesIn}
 use Rattle.terms.specs.Work.{Keeps, Below}
 use Rattle.terms.proofs.Columns.{bit-within}
-use Rattle.terms.proofs.InSet.{shape-is, mul-in-is}
+use Rattle.terms.proofs.InSet.{shape-is, mul-in-is, clashes-in}
 
 -- ---- a column
 
@@ -122,7 +124,7 @@ module _ (n w : ℕ) {M : Mem} (v : Valid n w M) (a b : ℕ) (ha : a < count M) 
       let e = row-count n w v b hb ∙ sym (row-count n w v a ha) in
       ap length (pad-mul (qs a) (qs b) e) ∙ length-each _·_ (qs a) (qs b) e ∙ row-count n w v a ha
 
-  module _ {xs′ zs′ : List ℕ} {e : ℕ} (q : Multiplied w (a * w) (b * w) (M .xs) (M .zs) xs′ zs′ e) where
+  module _ {xs′ zs′ : List ℕ} {e : Factor} (q : Multiplied w (a * w) (b * w) (M .xs) (M .zs) xs′ zs′ e) where
     -- the product of the whole words is that of the rows
     x-new : row w a xs′ ≡ pack hasX w (padMul (qs a) (qs b))
     unfolding qs rowsIn
@@ -139,11 +141,11 @@ module _ (n w : ℕ) {M : Mem} (v : Valid n w M) (a b : ℕ) (ha : a < count M) 
     packed-new = record { x-is = x-new ∙ ap (pack hasX w) (sym new); z-is = z-new ∙ ap (pack hasZ w) (sym new) }
 
     value : ℕ
-    value = (getD (M .es) a 0 + getD (M .es) b 0 + e) % 4
+    value = (getD (M .es) a 0 + getD (M .es) b 0 + e .phase .0) % 4
 
     exponent : value ≡ (getD (M .es) a 0 + getD (M .es) b 0 + phases (take n (qs a)) (take n (qs b))) % 4
     unfolding qs value rowsIn
-    exponent = omega (arith, q .here .exponent, phase-is n w v M a b ha)
+    exponent = omega (arith, q .here .factor .exponent, phase-is n w v M a b ha)
 
     M′ : Mem
     M′ = mem xs′ zs′ (set (M .es) a value)
@@ -209,3 +211,7 @@ mul-view {n} {M} s a b ha hb =
       rows-are = rows;
       laid-out = laid n w valid rows ∙ ap (λ m. lay n m (mulAt (mulRow n) (rowsOf n M) a b)) many;
     }
+
+-- its number of clashes
+pub clashes-view : {n : ℕ} {M : Mem} → Sound n M → (a b : ℕ) → a < count M → b < count M → clashesIn n a b M ≡ clashesOf n (rowsOf n M a) (rowsOf n M b)
+clashes-view {n} {M} s a b ha hb = clashes-in n a b M (shape-is s) ha hb ∙ clashes-fit n (wordsOf n) (s .valid) M (s .few-qubits) a b ha

@@ -5,20 +5,26 @@ use mathlib.Core.Path.{_≡_}
 use mathlib.Core.List.{List, []}
 use lib.ListN.{length}
 use Rattle.pauli.specs.Row.{Row, mulRow, bitRow}
+use Rattle.pauli.specs.Rows.{clashesOf}
 use Rattle.encoding.specs.Set.{Mem, count, rowsOf, list, lay}
-use Rattle.encoding.specs.Refusals.{fault, setTests, doneOr, leftOr, rowsTests}
-use Rattle.encoding.specs.declared.Answer.{Answer}
+use Rattle.encoding.specs.Refusals.{fault, setTests, leftOr, rowsTests}
 use Rattle.reduction.specs.Rule.{Entry, mulAt}
 use Rattle.reduction.specs.Log.{logged, capacity}
 use Rattle.reduction.specs.Capacity.{Reduced, done, full, capped}
 use Rattle.terms.specs.Refused.{reduceTests}
+use Rattle.terms.specs.declared.Clashes.{Clashes}
+use Rattle.terms.specs.declared.Clashes.the-variants as clash
 use Rattle.terms.specs.declared.Canonicalized.{Canonicalized}
 use Rattle.terms.specs.declared.Canonicalized.the-variants.{Done, Full, Refused}
 
--- ---- row a is multiplied by row b, in place
+-- ---- row a is multiplied by row b, in place, and the number of clashes returned
 
-pub record Multiplies (n a b : ℕ) (M M′ : Mem) (r : Answer) : Type 0 where
-  pub answer : r ≡ doneOr (fault (rowsTests n M a b))
+abbrev pub clashesOr : ℕ → ℕ → Clashes
+clashesOr zero c = clash.Number c
+clashesOr (suc k) c = clash.Refused (suc k)
+
+pub record Multiplies (n a b : ℕ) (M M′ : Mem) (r : Clashes) : Type 0 where
+  pub answer : r ≡ clashesOr (fault (rowsTests n M a b)) (clashesOf n (rowsOf n M a) (rowsOf n M b))
   pub rows : M′ ≡ leftOr (fault (rowsTests n M a b)) M (lay n (count M) (mulAt (mulRow n) (rowsOf n M) a b))
 
 -- ---- reduction with a log

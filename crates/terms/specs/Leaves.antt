@@ -6,12 +6,13 @@ use mathlib.Core.List.{List, [], _∷_, _++_}
 use Prim.Native.Nat.{ℕ, suc, _+_, _-_, _*_, _/_, _%_, _≤_, _<_}
 use lib.Dec.{eqb, leb, ltb}
 use lib.ListN.{length, getD, take, drop, set}
-use Rattle.pauli.specs.Pauli.{hasX, hasZ, mul, phases}
+use Rattle.pauli.specs.Pauli.{hasX, hasZ, mul, phases, clashes}
 use Rattle.encoding.specs.Limits.{maxQubits, maxRows, maxWords, wordsOf}
 use Rattle.encoding.specs.Words.{bitAt, unpack, pack}
 use Rattle.encoding.specs.Set.{row, Mem, mem, count}
 use Rattle.encoding.specs.Refusals.{fault, outTests}
 use Rattle.products.specs.Leaves.{Multiplied}
+use Rattle.products.specs.declared.Factor.{Factor}
 
 -- column c of a row's two parts: X of qubit c, from n on Z of qubit c - n
 abbrev pub columnOf : ℕ → List ℕ → List ℕ → ℕ → Bool
@@ -44,7 +45,13 @@ mulIn n a b M =
     (mem (putRow w a (pack hasX w (mul A B)) (M .xs)) (putRow w a (pack hasZ w (mul A B)) (M .zs)) (set (M .es) a ((getD (M .es) a 0 + getD (M .es) b 0 + phases A B) % 4)))
     M
 
--- ---- the worker behind it
+-- the number of qubits at which rows a and b hold differing non-identity Paulis, mod 2^16; 0 where not both are in
+unfoldable pub clashesIn : ℕ → ℕ → ℕ → Mem → ℕ
+clashesIn n a b M =
+    let w = wordsOf n in
+    cond (bothIn n M a b) (clashes (unpack (row w a (M .xs)) (row w a (M .zs))) (unpack (row w b (M .xs)) (row w b (M .zs))) % 65536) 0
+
+-- ---- the worker behind both
 
 -- m rows of w words, within the limits, and both rows in it
 pub record InRows (w a b : ℕ) (M : Mem) : Type 0 where
@@ -55,7 +62,8 @@ pub record InRows (w a b : ℕ) (M : Mem) : Type 0 where
   pub a-in : a < count M
   pub b-in : b < count M
 
-pub record RowsMultiplied (w a b : ℕ) (M M′ : Mem) : Type 0 where
-  pub exponent : ℕ
-  pub words : Multiplied w (a * w) (b * w) (M .xs) (M .zs) (M′ .xs) (M′ .zs) exponent
-  pub bytes : M′ .es ≡ set (M .es) a ((getD (M .es) a 0 + getD (M .es) b 0 + exponent) % 4)
+pub record RowsMultiplied (w a b : ℕ) (M M′ : Mem) (c : ℕ) : Type 0 where
+  pub factor : Factor
+  pub words : Multiplied w (a * w) (b * w) (M .xs) (M .zs) (M′ .xs) (M′ .zs) factor
+  pub bytes : M′ .es ≡ set (M .es) a ((getD (M .es) a 0 + getD (M .es) b 0 + factor .phase .0) % 4)
+  pub number : c ≡ factor .clashes

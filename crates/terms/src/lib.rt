@@ -8,7 +8,6 @@ ghost use Rattle.encoding.specs.Refusals.{fault, rowsTests};
 ghost use Rattle.terms.specs.Refused.{reduceTests, Reducible};
 ghost use Rattle.terms.specs.Work.{BothIn, ListsIn};
 ghost use Rattle.terms.specs.Calls.{Multiplies, Leaves, outcomeOf, Reduces, wholeOutcome, ReducesAll, upTo};
-use encoding::Answer;
 use encoding::MAX_ROWS;
 use pauli::RowNumber;
 
@@ -26,6 +25,12 @@ pub enum Canonicalized {
     Refused(u8),
 }
 
+// What the product in place answers: the number of qubits at which the two rows held differing Paulis other than I.
+pub enum Clashes {
+    Number(u16),
+    Refused(u8),
+}
+
 // The first number of the table that fits a set and two row numbers, or 0.
 fn imul_fault(n: usize, x: &[u64], z: &[u64], phases: &[u8], a: usize, b: usize) -> u8
     ensures { λ r. ⌜ r ≡ fault (rowsTests n (mem (now (x .entry)) (now (z .entry)) (now (phases .entry))) a b) ⌝ }
@@ -37,7 +42,7 @@ fn imul_fault(n: usize, x: &[u64], z: &[u64], phases: &[u8], a: usize, b: usize)
     encoding::smaller(f, encoding::pick(large, 6, 0))
 }
 
-// Row a of the set is multiplied by row b, in place.
+// Row a of the set is multiplied by row b, in place; the number of clashes is returned.
 pub fn imul(
     n: usize,
     x: &mut [u64],
@@ -45,15 +50,14 @@ pub fn imul(
     phases: &mut [u8],
     a: RowNumber,
     b: RowNumber,
-) -> Answer
+) -> Clashes
     ensures { λ r. ⌜ Multiplies n (a .0) (b .0) (mem (now (x .entry)) (now (z .entry)) (now (phases .entry))) (mem (now (x .exit)) (now (z .exit)) (now (phases .exit))) r ⌝ }
 {
     let f = imul_fault(n, x, z, phases, a.0, b.0);
     if f != 0 {
-        return Answer::Refused(f);
+        return Clashes::Refused(f);
     }
-    rows::imul_unchecked(n, x, z, phases, a, b);
-    Answer::Done
+    Clashes::Number(rows::imul_unchecked(n, x, z, phases, a, b))
 }
 
 // The first number of the table that fits a set, an order and two lists, or 0.

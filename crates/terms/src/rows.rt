@@ -5,7 +5,7 @@ ghost use lib.ListN.{drop};
 ghost use Rattle.encoding.specs.Limits.{maxRows, maxWords};
 ghost use Rattle.encoding.specs.Words.{bitAt};
 ghost use Rattle.encoding.specs.Set.{row, mem};
-ghost use Rattle.terms.specs.Leaves.{bitIn, firstPlace, mulIn, InRows, RowsMultiplied};
+ghost use Rattle.terms.specs.Leaves.{bitIn, firstPlace, mulIn, clashesIn, InRows, RowsMultiplied};
 use encoding::MAX_QUBITS;
 use encoding::MAX_ROWS;
 use pauli::RowNumber;
@@ -60,16 +60,19 @@ fn add_signs(a: u8, b: u8, e: u8) -> u8
     ((a as u16 + b as u16 + e as u16) % 4) as u8
 }
 
-// Row a is multiplied by row b; a and b may be the same.
-fn mul_rows(w: usize, x: &mut [u64], z: &mut [u64], p: &mut [u8], a: usize, b: usize)
+// Row a is multiplied by row b; a and b may be the same. The number of clashes is returned.
+fn mul_rows(w: usize, x: &mut [u64], z: &mut [u64], p: &mut [u8], a: usize, b: usize) -> u16
     requires { ⌜ InRows w a b (mem (now x) (now z) (now p)) ⌝ }
-    ensures { λ _. ⌜ RowsMultiplied w a b (mem (now (x .entry)) (now (z .entry)) (now (p .entry))) (mem (now (x .exit)) (now (z .exit)) (now (p .exit))) ⌝ }
+    ensures { λ c. ⌜ RowsMultiplied w a b (mem (now (x .entry)) (now (z .entry)) (now (p .entry))) (mem (now (x .exit)) (now (z .exit)) (now (p .exit))) c ⌝ }
 {
-    let e = products::imul_op_op(x, z, a * w, b * w, w);
+    let f = products::imul_op_op(x, z, a * w, b * w, w);
+    let e = f.phase;
     p[a] = add_signs(p[a], p[b], e.0);
+    f.clashes
 }
 
-// Row a of a set is multiplied by row b in place, with its phase byte. Where lengths do not fit or a row is not there, nothing is done.
+// Row a of a set is multiplied by row b in place, with its phase byte, and the number of clashes is returned. Where lengths do not fit or a row
+// is not there, nothing is done, and 0 is returned.
 pub fn imul_unchecked(
     n: usize,
     x: &mut [u64],
@@ -77,18 +80,19 @@ pub fn imul_unchecked(
     p: &mut [u8],
     a: RowNumber,
     b: RowNumber,
-)
+) -> u16
     ensures { λ _. ⌜ mem (now (x .exit)) (now (z .exit)) (now (p .exit)) ≡ mulIn n (a .0) (b .0) (mem (now (x .entry)) (now (z .entry)) (now (p .entry))) ⌝ }
+    ensures number { λ c. ⌜ c ≡ clashesIn n (a .0) (b .0) (mem (now (x .entry)) (now (z .entry)) (now (p .entry))) ⌝ }
 {
     let m = p.len();
     if encoding::out_fault(n, m, x, z, p) != 0 {
-        return;
+        return 0;
     }
     if m <= a.0 {
-        return;
+        return 0;
     }
     if m <= b.0 {
-        return;
+        return 0;
     }
-    mul_rows(encoding::words(n), x, z, p, a.0, b.0);
+    mul_rows(encoding::words(n), x, z, p, a.0, b.0)
 }

@@ -1,44 +1,61 @@
 -- `cmpnt_list::cmpnts_mul_pairwise` meets its contract. Assumes nothing.
 use mathlib.Core.Path.{refl, sym, _∙_}
+use mathlib.Core.List.{List}
 use Prim.Native.Nat.{ℕ}
 use borrow.Author.Needs.{needs}
+use lib.ListN.{length}
 use Rattle.encoding.specs.declared.Answer.the-variants.{Refused}
-use Rattle.encoding.specs.Refusals.{doneOr, leftOr, joined, setTests, outTests, differentRows}
+use Rattle.encoding.specs.Refusals.{doneOr, leftOr, joined, setTests, outTests}
 use Rattle.encoding.proofs.Faults.{least-none, refusing, passing, both-parts}
 use Rattle.encoding.specs.Set.{mem, count, lay}
-use Rattle.cmpnt_list.specs.Calls.{pairs}
+use Rattle.cmpnt_list.specs.Calls.{otherLengths, pairs, pairNumbers}
 use Rattle.cmpnt_list.proofs.cmpnts_mul_pairwise.Statement.{statement}
 use Rattle.cmpnt_list.proofs.cmpnts_mul_pairwise.Tie as tie
+use Rattle.cmpnt_list.proofs.cmpnts_mul_pairwise.Lts as lts
 
 returns : tie.Need-returns
 returns c =
-    let s = c .before .before .before .before .before .before .before .before .before .before .before .before .before .before .before .before in
+    let k = c .before in
+    let s = k .before .before .before .before .before .before .before .before .before .before .before .before .before .before .before .before in
     let a = s .args in
     let L = mem (a .lx .now) (a .lz .now) (a .lp .now) in
     let R = mem (a .rx .now) (a .rz .now) (a .rp .now) in
     let O = mem (a .ox .now) (a .oz .now) (a .op .now) in
-    let new = lay (a .n) (count L) (pairs (a .n) L R) in
-    let e = both-parts (joined (setTests (a .n) L) (setTests (a .n) R)) (joined (differentRows (count L) (count R)) (outTests (a .n) (count L) O)) (c .before .before .before .before .before .before .both-fault .ensures .0) (c .before .before .third-fault .ensures .0) (c .before .smaller .ensures) in
-    record { answer = refusing Refused doneOr (λ k. refl) e (c .if1 .taken); rows = refusing (λ (k : ℕ). O) (λ (k : ℕ). leftOr k O new) (λ k. refl) e (c .if1 .taken) }
+    let cs = a .clashes .now in
+    let e = both-parts (joined (setTests (a .n) L) (setTests (a .n) R)) (joined (otherLengths (count L) (count R) (length cs)) (outTests (a .n) (count L) O)) (k .before .before .before .before .before .both-fault .ensures .0) (k .before .third-fault .ensures .0) (k .smaller .ensures) in
+    record {
+      answer = refusing Refused doneOr (λ k. refl) e (c .if1 .taken);
+      rows = refusing (λ (k : ℕ). O) (λ (k : ℕ). leftOr k O (lay (a .n) (count L) (pairs (a .n) L R))) (λ k. refl) e (c .if1 .taken);
+      numbers = refusing (λ (k : ℕ). cs) (λ (k : ℕ). leftOr k cs (pairNumbers (a .n) L R)) (λ k. refl) e (c .if1 .taken);
+    }
 
 mul-rows-requires : tie.Need-mul-rows-requires
 mul-rows-requires c κs =
-    let f = c .before .before .before .before .before .before .before .before .before .both-fault in
-    let t = c .before .before .before .before .before .third-fault in
-    let p = least-none (f .result) (t .result) (sym (c .before .before .before .before .smaller .ensures) ∙ c .before .before .before .if1 .left) in
+    let i = c .before .before .before .before in
+    let k = i .before in
+    let f = k .before .before .before .before .before .both-fault in
+    let t = k .before .third-fault in
+    let p = least-none (f .result) (t .result) (sym (k .smaller .ensures) ∙ i .if1 .left) in
     (f .ensures .1 (p .0), t .ensures .1 (p .1))
 
 returns-2 : tie.Need-returns-2
 returns-2 c =
-    let s = c .before .before .before .before .before .before .before .before .before .before .before .before .before .before .before .before .before .before .before .before .before .before .before .before .before .before in
+    let m = c .before .before .before .before .before .before .before .before in
+    let i = m .before .before .before .before .before in
+    let k = i .before in
+    let s = k .before .before .before .before .before .before .before .before .before .before .before .before .before .before .before .before in
     let a = s .args in
     let L = mem (a .lx .now) (a .lz .now) (a .lp .now) in
     let R = mem (a .rx .now) (a .rz .now) (a .rp .now) in
     let O = mem (a .ox .now) (a .oz .now) (a .op .now) in
-    let new = lay (a .n) (count L) (pairs (a .n) L R) in
-    let e = both-parts (joined (setTests (a .n) L) (setTests (a .n) R)) (joined (differentRows (count L) (count R)) (outTests (a .n) (count L) O)) (c .before .before .before .before .before .before .before .before .before .before .before .before .before .before .before .before .both-fault .ensures .0) (c .before .before .before .before .before .before .before .before .before .before .before .before .third-fault .ensures .0) (c .before .before .before .before .before .before .before .before .before .before .before .smaller .ensures) in
-    let z = c .before .before .before .before .before .before .before .before .before .before .if1 .left in
-    record { answer = passing doneOr e z; rows = c .before .before .before .before .before .before .mul-rows .ensures ∙ passing (λ (k : ℕ). leftOr k O new) e z }
+    let cs = a .clashes .now in
+    let e = both-parts (joined (setTests (a .n) L) (setTests (a .n) R)) (joined (otherLengths (count L) (count R) (length cs)) (outTests (a .n) (count L) O)) (k .before .before .before .before .before .both-fault .ensures .0) (k .before .third-fault .ensures .0) (k .smaller .ensures) in
+    let z = i .if1 .left in
+    record {
+      answer = passing doneOr e z;
+      rows = m .mul-rows .ensures .0 ∙ passing (λ (k : ℕ). leftOr k O (lay (a .n) (count L) (pairs (a .n) L R))) e z;
+      numbers = m .mul-rows .ensures .1 ∙ passing (λ (k : ℕ). leftOr k cs (pairNumbers (a .n) L R)) e z;
+    }
 
 pub cmpnts-mul-pairwise-spec : {M : Type 1} → statement M
 cmpnts-mul-pairwise-spec =
@@ -52,6 +69,7 @@ cmpnts-mul-pairwise-spec =
     (λ c. search needs)
     returns
     mul-rows-requires
+    (λ c. search needs)
     (λ c. search needs)
     (λ c. search needs)
     (λ c. search needs)

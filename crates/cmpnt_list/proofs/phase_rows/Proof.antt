@@ -13,11 +13,12 @@ use Rattle.cmpnt_list.proofs.phase_rows.Tie as tie
 
 returns : tie.Need-returns
 returns c =
-    let s = c .before .before .before .before .before .before .before .before .before .before in
+    let k = c .before in
+    let s = k .before .before .before .before .before .before .before .before .before .before in
     let a = s .args in
     let M = mem (a .x .now) (a .z .now) (a .phases .now) in
-    c .mul-op-op-phase .ensures
-    ∙ ap₂ (λ (l r : List Pauli). phases l r % 4) (words-at (c .before .before .before .before .before .before .row-span .ensures) M) (words-at (c .before .before .before .before .before .row-span2 .ensures) M)
+    k .mul-op-op-phase .ensures .exponent
+    ∙ ap₂ (λ (l r : List Pauli). phases l r % 4) (words-at (k .before .before .before .before .before .before .row-span .ensures) M) (words-at (k .before .before .before .before .before .row-span2 .ensures) M)
     ∙ phase-is (a .n) (wordsOf (a .n)) (s .pre .0 .valid) M (a .a) (a .b) (s .pre .1 .0)
 
 pub phase-rows-spec : {M : Type 1} → statement M

@@ -1,10 +1,11 @@
 -- `cmpnt_list::third_fault` meets its contract. Assumes nothing.
 use mathlib.Core.Path.{_∙_}
 use borrow.Author.Needs.{needs}
-use Rattle.encoding.specs.Refusals.{outTests, differentRows}
+use Rattle.encoding.specs.Refusals.{outTests}
+use Rattle.cmpnt_list.specs.Calls.{otherLengths}
 use Rattle.encoding.specs.Set.{mem}
-use Rattle.encoding.proofs.Faults.{both-parts, different-is}
-use Rattle.cmpnt_list.proofs.Tests.{third-ready}
+use Rattle.encoding.proofs.Faults.{both-parts}
+use Rattle.cmpnt_list.proofs.Tests.{third-ready, lengths-is}
 use Rattle.cmpnt_list.proofs.third_fault.Statement.{statement}
 use Rattle.cmpnt_list.proofs.third_fault.Tie as tie
 
@@ -14,8 +15,8 @@ returns c =
     let p = o .before in
     let a = p .before .before .before .before .args in
     let O = mem (a .ox .now) (a .oz .now) (a .op .now) in (
-      both-parts (differentRows (a .m) (a .k)) (outTests (a .n) (a .m) O) (p .pick .ensures ∙ different-is (a .m) (a .k)) (o .out-fault .ensures) (c .smaller .ensures),
-      third-ready (a .n) (a .m) (a .k) O (p .pick .ensures) (o .out-fault .ensures) (c .smaller .ensures),
+      both-parts (otherLengths (a .m) (a .k) (a .q)) (outTests (a .n) (a .m) O) (p .pick .ensures ∙ lengths-is (a .m) (a .k) (a .q)) (o .out-fault .ensures) (c .smaller .ensures),
+      third-ready (a .n) (a .m) (a .k) (a .q) O (p .pick .ensures) (o .out-fault .ensures) (c .smaller .ensures),
     )
 
 pub third-fault-spec : {M : Type 1} → statement M

@@ -62,7 +62,7 @@ returns-2 c =
     let t1 = l2 .before in
     let l1 = t1 .before in
     let a = l1 .before .before .before .args in
-    kept-in (a .w) (a .s) (a .t) (a .x .now) (a .z .now)
+    kept-in (a .w) (a .s) (a .t) (a .x .now) (a .z .now) refl refl
     (inside-of (a .w) (a .s) (a .t) (a .x .now) (a .z .now) (l1 .lies .ensures) (l2 .lies2 .ensures) (ap3 .apart .ensures) ∙ ap₂ _&&_ (t1 .if1 .taken) (ap₂ _&&_ (t2 .if2 .taken) (c .if3 .left)))
 
 returns-3 : tie.Need-returns-3
@@ -71,14 +71,14 @@ returns-3 c =
     let t1 = l2 .before in
     let l1 = t1 .before in
     let a = l1 .before .before .before .args in
-    kept-in (a .w) (a .s) (a .t) (a .x .now) (a .z .now)
+    kept-in (a .w) (a .s) (a .t) (a .x .now) (a .z .now) refl refl
     (outside-t (a .w) (a .s) (a .t) (a .x .now) (a .z .now) (l1 .lies .ensures) (t1 .if1 .taken) (l2 .lies2 .ensures) (c .if2 .left))
 
 returns-4 : tie.Need-returns-4
 returns-4 c =
     let l1 = c .before in
     let a = l1 .before .before .before .args in
-    kept-in (a .w) (a .s) (a .t) (a .x .now) (a .z .now)
+    kept-in (a .w) (a .s) (a .t) (a .x .now) (a .z .now) refl refl
     (outside-s (a .w) (a .s) (a .t) (a .x .now) (a .z .now) (l1 .lies .ensures) (c .if1 .left))
 
 pub imul-op-op-spec : {M : Type 1} → statement M

@@ -1,34 +1,36 @@
 use borrow.Author.Needs.{needs}
-use Rattle.products.proofs.InPlace.{Inplace, inplace-none, inplace-more, multiplied}
 use native.Mathlib.Omega.{arith}
-use mathlib.Core.Path.{_≡_, refl, sym, ap, _∙_}
-use Prim.Native.Nat.{ℕ, _+_, _*_, _-_, _/_, _<_, _≤_}
-use lib.ListN.{length, getD, drop, take, length-set}
+use mathlib.Core.Path.{_≡_}
+use Prim.Native.Nat.{ℕ, _-_, _<_}
+use Rattle.products.proofs.InPlace.{Inplace, inplace-none, inplace-more, multiplied}
 use Rattle.products.proofs.imul_row.Statement.{statement}
 use Rattle.products.proofs.imul_row.Tie as tie
 use Rattle.products.proofs.imul_row.Reads as reads
 use Rattle.products.proofs.imul_row.Lts as lts
-use Rattle.products.proofs.mul_op_op_phase_u64.Reads as mul-op-op-phase-u64-reads
+use Rattle.products.proofs.add_clashes.Reads as add-clashes-reads
+use Rattle.products.proofs.factor_from.Reads as factor-from-reads
+use Rattle.products.proofs.turn_threes.Reads as turn-threes-reads
 
 abbrev Inv-loop : tie.InvT-loop
-Inv-loop x₀ z₀ s t w e₀ i₀ x z e i = Inplace w s t x₀ z₀ x z e i
+Inv-loop x₀ z₀ s t w n₀ f₀ i₀ x z n f i = Inplace w s t x₀ z₀ x z n f i
 
 abbrev μ-loop : tie.MeasureT-loop
-μ-loop x₀ z₀ s t w e₀ i₀ x z e i = w - i
+μ-loop x₀ z₀ s t w n₀ f₀ i₀ x z n f i = w - i
 
 loop-holds : tie.Need-loop-holds Inv-loop μ-loop
 loop-holds c = inplace-none (c .before .before .pre)
 
 loop-again : tie.Need-loop-again Inv-loop μ-loop
 loop-again c =
-    let w = c .before .before .before .before .before in
+    let w = c .before .before .before .before .before .before in
     let l = w .before in
-    inplace-more (l .before .before .before .pre) (c .mul-op-op-phase-u64 .result) (l .loop .inv) (w .loop-test .taken) (c .mul-op-op-phase-u64 .ensures)
+    inplace-more (l .before .before .before .pre) (c .before .add-clashes .result) (c .turn-threes .result) (l .loop .inv) (w .loop-test .taken) (c .before .add-clashes .ensures) (c .turn-threes .ensures)
 
 returns : tie.Need-returns Inv-loop μ-loop
 returns c =
-    let l = c .before in
-    multiplied (l .before .before .before .pre) (l .loop .inv) (c .loop-test .left) (l .before .before .slice-known .given) (l .before .slice-known2 .given)
+    let w = c .before in
+    let l = w .before in
+    multiplied (l .before .before .before .pre) (l .loop .inv) (w .loop-test .left) (l .before .before .slice-known .given) (l .before .slice-known2 .given) (c .factor-from .ensures .0) (c .factor-from .ensures .1)
 
 pub imul-row-spec : {M : Type 1} → statement M
 imul-row-spec =
@@ -48,7 +50,7 @@ imul-row-spec =
     (λ c. search needs)
     (λ c. search needs)
     (λ c κs. search needs)
-    (λ c. search needs)
+    (λ c κs. search needs)
     (λ c. search needs)
     (λ c. search needs)
     (λ c. search needs)
@@ -56,7 +58,7 @@ imul-row-spec =
     (λ c. search needs)
     (λ c. search needs)
     loop-again
-    (λ c. search needs)
+    (λ c κs. search needs)
     (λ c. search needs)
     (λ c. search needs)
     returns)

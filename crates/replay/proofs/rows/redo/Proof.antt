@@ -38,7 +38,7 @@ loop-again c =
     let d = c .before .before .before .before .before .before .imul-unchecked in
     let k = d .kept in
     let M₀ = mem (a .x .now) (a .z .now) (a .phases .now) in
-    (omega arith, (k .1 .0 ∙ l .inv .1 .0, k .1 .1 .0 ∙ l .inv .1 .1, k .1 .1 .1 .0 ∙ l .inv .1 .2), redo-more (a .n) (a .log .now) (l .i) M₀ (omega (arith, s .pre)) (l .inv .2) (d .ensures))
+    (omega arith, (k .1 .0 ∙ l .inv .1 .0, k .1 .1 .0 ∙ l .inv .1 .1, k .1 .1 .1 .0 ∙ l .inv .1 .2), redo-more (a .n) (a .log .now) (l .i) M₀ (omega (arith, s .pre)) (l .inv .2) (d .ensures .0))
 
 same-length : tie.Need-same-length Inv-loop μ-loop
 same-length c = c .before .loop .inv .1 .0

@@ -12,7 +12,7 @@ slice-write-log-2 : tie.Need-slice-write-log-2
 slice-write-log-2 c = simp length-set (omega arith)
 
 returns-2 : tie.Need-returns-2
-returns-2 c = let s = c .before .before .before .before .before .before .before .before .before .before .before .before .before .before .before in put-done (s .pre .0) (s .args .a) (s .args .b) (c .before .before .before .before .before .before .imul-unchecked .ensures) (s .pre .1 .0) (s .pre .1 .1) (omega arith)
+returns-2 c = let s = c .before .before .before .before .before .before .before .before .before .before .before .before .before .before .before in put-done (s .pre .0) (s .args .a) (s .args .b) (c .before .before .before .before .before .before .imul-unchecked .ensures .0) (s .pre .1 .0) (s .pre .1 .1) (omega arith)
 
 pub put-spec : {M : Type 1} → statement M
 put-spec =

@@ -12,7 +12,7 @@ mul-imul-op-op-2 : tie.Need-mul-imul-op-op-2
 mul-imul-op-op-2 c = let s = c .before .before .before .before .before in omega (arith, small-start (s .args .b) (s .args .w) (omega (arith, s .pre .b-in, s .pre .few)) (s .pre .narrow))
 
 returns : tie.Need-returns
-returns c = rows-multiplied (c .before .before .before .before .before .before .before .before .before .before .before .before .before .pre) (c .before .before .before .before .before .before .before .imul-op-op .ensures) (c .add-signs .ensures)
+returns c = let k = c .before .before .before .before .before .before .before .before in rows-multiplied (k .before .before .before .before .before .before .pre) (k .imul-op-op .ensures) (c .add-signs .ensures)
 
 pub mul-rows-spec : {M : Type 1} → statement M
 mul-rows-spec =
