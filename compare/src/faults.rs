@@ -71,9 +71,16 @@ fn own(call: &str) -> &'static [(u8, Fault)] {
         "phase" | "comm" | "imul" => &[(6, row_too_large), (6, row_far_too_large), (6, second_row_too_large)],
         "act" => &[(3, state_longer), (3, state_shorter), (4, spare_in_state), (6, row_too_large)],
         "matrix" => &[(3, out_longer), (3, out_shorter)],
-        "pair" => {
-            &[(2, third_more_rows), (3, third_x_longer), (3, third_z_longer), (3, third_p_longer), (3, third_p_shorter)]
-        }
+        "pair" => &[
+            (2, third_more_rows),
+            (3, third_x_longer),
+            (3, third_z_longer),
+            (3, third_p_longer),
+            (3, third_p_shorter),
+            (3, numbers_longer),
+            (3, numbers_shorter),
+            (3, numbers_257),
+        ],
         "reduce" => {
             &[(6, column_too_large), (6, listed_too_large), (6, extra_too_large), (7, listed_twice), (8, log_short)]
         }
@@ -157,7 +164,7 @@ fn more_qubits(case: &mut Case, _: &mut Random) -> bool {
         "pair" => {
             refit(case, 4, w);
             let m = case.bytes(3).len() as u64;
-            case.fields[7] = Field::Lengths([17 * m, 17 * m, m]);
+            case.fields[7] = Field::Lengths([17 * m, 17 * m, m, m]);
         }
         "check" => refit(case, 8, w),
         "act" => words(case, 5).resize(17, 0),
@@ -223,7 +230,7 @@ fn second_more_rows(case: &mut Case, _: &mut Random) -> bool {
 
 fn third_more_rows(case: &mut Case, _: &mut Random) -> bool {
     let w = words_for(n_of(case).min(1024)) as u64;
-    case.fields[7] = Field::Lengths([257 * w, 257 * w, 257]);
+    case.fields[7] = Field::Lengths([257 * w, 257 * w, 257, 257]);
     true
 }
 
@@ -340,6 +347,22 @@ fn third_p_longer(case: &mut Case, _: &mut Random) -> bool {
 
 fn third_p_shorter(case: &mut Case, _: &mut Random) -> bool {
     third(case, 2, -1)
+}
+
+fn numbers_longer(case: &mut Case, _: &mut Random) -> bool {
+    third(case, 3, 1)
+}
+
+fn numbers_shorter(case: &mut Case, _: &mut Random) -> bool {
+    third(case, 3, -1)
+}
+
+/// More numbers than rows are allowed: the lent numbers are no rows, so it is 3 as well.
+fn numbers_257(case: &mut Case, _: &mut Random) -> bool {
+    let Field::Lengths(lengths) = &mut case.fields[7] else { unreachable!("the lengths of pair") };
+    let old = lengths[3];
+    lengths[3] = 257;
+    old != 257
 }
 
 // ---- 4

@@ -46,6 +46,7 @@ fn list() -> Vec<String> {
     not_of_the_form(&mut out);
     random(&mut out);
     last_ones(&mut out);
+    clashes(&mut out);
     out
 }
 
@@ -473,4 +474,35 @@ fn last_ones(out: &mut Vec<String>) {
         out.push(check_of(&log, CLAIM));
     }
     out.push("elemf 1 0,0 0,0 7ff8000000000000,0 0,0 0 1".to_string());
+}
+
+/// How many qubits clash: none, one, all; of a row by itself; and lent numbers that are not m.
+fn clashes(out: &mut Vec<String>) {
+    group(
+        out,
+        "clashes: of two rows in either order, of a row by itself; numbers of another length alone",
+        &[
+            "imul 4 f,a c,6 0,0 0 1",
+            "imul 4 f,a c,6 0,0 1 0",
+            "imul 2 3,1 3,2 1,2 0 0",
+            "pair 2 3,1,0 3,2,1 0,0,0 3,0,1 3,2,0 0,0,0 3,3,3,3",
+            "pair 1 1 0 0 0 1 0 1,1,1,1",
+            "pair 1 1 0 0 0 1 0 1,1,1,0",
+            "pair 1 1 0 0 0 1 0 1,1,1,2",
+            "pair 1 1 0 0 0 1 0 1,1,1,257",
+            "pair 0 - - - - - - 0,0,0,0",
+            "pair 0 - - - - - - 0,0,0,1",
+            "pair 1 1 0 0 0 1 0 1,1,1",
+            "pair 1 1 0 0 0 1 0 1,1,1,1,1",
+        ],
+    );
+    let all = |letter: Pauli| Row { paulis: vec![letter; 1024], phase: 0 };
+    let rows = packed(1024, &[all(Pauli::X), all(Pauli::Z), all(Pauli::Y)]);
+    for (a, b) in [(0, 1), (1, 2), (2, 0), (2, 2)] {
+        out.push(with_numbers("imul", 1024, &rows, &[a, b]));
+    }
+    let right = packed(1024, &[all(Pauli::Y), all(Pauli::Z), all(Pauli::I)]);
+    let lengths = Field::Lengths([48, 48, 3, 3]);
+    let more = vec![Field::Words(right.x), Field::Words(right.z), Field::Bytes(right.p), lengths];
+    out.push(valid::call_on("pair", 1024, &rows, more).line());
 }

@@ -9,11 +9,11 @@ pub enum Field {
     Shorts(Vec<u16>),
     Ints(Vec<i32>),
     Letter(char),
-    Lengths([u64; 3]),
+    Lengths([u64; 4]),
 }
 
 /// Each call with the kinds of its fields: n number, w word, W words, B bytes, S list of u16, I list of i32, L letter,
-/// T three lengths.
+/// T four lengths.
 pub const CALLS: [(&str, &str); 17] = [
     ("phase1", "wwww"),
     ("act1", "www"),

@@ -62,7 +62,7 @@ fn refusal_of_sets(case: &Case) -> Option<u8> {
 }
 
 fn third_is_too_large(case: &Case) -> bool {
-    matches!(case.fields.last(), Some(Field::Lengths([_, _, p])) if *p > 256)
+    matches!(case.fields.last(), Some(Field::Lengths([_, _, p, _])) if *p > 256)
 }
 
 fn lengths_fit(case: &Case, n: usize, sets: &[Set]) -> bool {
@@ -76,7 +76,7 @@ fn output_fits(case: &Case, m: usize, w: usize) -> bool {
     match case.call {
         "act" => case.words(5).len() == w,
         "matrix" => case.number(4) == (m * words_for(m)) as u64,
-        "pair" => case.fields[7] == Field::Lengths([(m * w) as u64, (m * w) as u64, m as u64]),
+        "pair" => case.fields[7] == Field::Lengths([m * w, m * w, m, m].map(|v| v as u64)),
         _ => true,
     }
 }
@@ -188,8 +188,10 @@ fn over_set(case: &Case) -> String {
         }
         "pair" => pair(case, n, &rows),
         "imul" => {
+            let (a, b) = two(case, &rows);
+            let number = clashes(&a.paulis, &b.paulis);
             multiply(&mut rows, case.number(4) as usize, case.number(5) as usize);
-            format!("ok {}", rows_text(n, &rows))
+            format!("ok {} {number}", rows_text(n, &rows))
         }
         "check" => check(case, n, rows),
         _ => reduction(case, n, rows),
@@ -241,7 +243,8 @@ fn pair(case: &Case, n: usize, left: &[Row]) -> String {
     let times =
         |(l, r): (&Row, &Row)| Row { paulis: product(&l.paulis, &r.paulis), phase: phase(&l.paulis, &r.paulis) };
     let out: Vec<Row> = left.iter().zip(&right).map(times).collect();
-    format!("ok {}", rows_text(n, &out))
+    let numbers: Vec<usize> = left.iter().zip(&right).map(|(l, r)| clashes(&l.paulis, &r.paulis)).collect();
+    format!("ok {} {}", rows_text(n, &out), joined(&numbers))
 }
 
 /// `reduce` and `reduceall`. The latter goes through all columns, and all rows are listed.

@@ -106,9 +106,13 @@ pub fn multiply(rows: &mut [Row], a: usize, b: usize) {
     rows[a].phase = exponent % 4;
 }
 
+/// How many qubits hold differing Paulis that are not I.
+pub fn clashes(a: &[Pauli], b: &[Pauli]) -> usize {
+    a.iter().zip(b).filter(|(a, b)| **a != I && **b != I && a != b).count()
+}
+
 pub fn commute(a: &[Pauli], b: &[Pauli]) -> bool {
-    let differing = a.iter().zip(b).filter(|(a, b)| **a != I && **b != I && a != b);
-    differing.count() % 2 == 0
+    clashes(a, b) % 2 == 0
 }
 
 /// The exponent of a word on a basis state.

@@ -95,7 +95,7 @@ fn pairs(sink: Sink) {
         });
         for left in &all {
             for right in &all {
-                let lengths = [left.x.len() as u64, left.z.len() as u64, m as u64];
+                let lengths = [left.x.len(), left.z.len(), m, m].map(|v| v as u64);
                 let right = vec![
                     Field::Words(right.x.clone()),
                     Field::Words(right.z.clone()),

@@ -137,7 +137,7 @@ fn state(random: &mut Random, n: usize) -> Vec<u64> {
 
 fn second_set(random: &mut Random, n: usize, m: usize) -> Vec<Field> {
     let right = packed(n, &rows(random, n, m));
-    let lengths = [right.x.len() as u64, right.z.len() as u64, m as u64];
+    let lengths = [right.x.len(), right.z.len(), m, m].map(|v| v as u64);
     vec![Field::Words(right.x), Field::Words(right.z), Field::Bytes(right.p), Field::Lengths(lengths)]
 }
 

@@ -49,7 +49,7 @@ fn over_set(call: &str, n: usize, set: Set, f: &mut Fields) -> Option<String> {
         "matrix" => Some(matrix(rows)),
         "central" => central(rows, f),
         "pair" => pair(n, rows, f),
-        "imul" => imul(set, f),
+        "imul" => imul(n, set, f),
         "reduce" => reduce(n, set, f),
         "reduceall" => reduce_all(n, set, f),
         "check" => replay(set, f),
@@ -125,12 +125,15 @@ fn central(rows: &CmpntList, f: &mut Fields) -> Option<String> {
 fn pair(n: usize, left: &CmpntList, f: &mut Fields) -> Option<String> {
     let right = f.set(n)?.word_iters;
     let (out, phases) = left.cmpnts_mul_pairwise(&right).ok()?;
-    Some(format!("ok {} {}", rows_text(&out), phases_text(&phases)))
+    let numbers = (0..left.len()).map(|i| clashes(n, left, i, &right, i));
+    Some(format!("ok {} {} {}", rows_text(&out), phases_text(&phases), joined(numbers)))
 }
 
-fn imul(mut set: Set, f: &mut Fields) -> Option<String> {
-    set.imul(f.number()?, f.number()?);
-    Some(format!("ok {}", set_text(&set)))
+fn imul(n: usize, mut set: Set, f: &mut Fields) -> Option<String> {
+    let (a, b) = (f.number()?, f.number()?);
+    let number = clashes(n, &set.word_iters, a, &set.word_iters, b);
+    set.imul(a, b);
+    Some(format!("ok {} {number}", set_text(&set)))
 }
 
 fn reduce(n: usize, set: Set, f: &mut Fields) -> Option<String> {

@@ -6,6 +6,7 @@ use oracle::container::traits::{Elements, MutRefElements, RefElements};
 use oracle::qubit::mode::{PauliMatrix, Qubits, SymplecticPart};
 use oracle::qubit::pauli::cmpnt_major::cmpnt_list::CmpntList;
 use oracle::qubit::pauli::cmpnt_major::terms::Terms;
+use oracle::qubit::traits::PauliWordRef;
 
 /// The fields of a line after its first, taken one by one.
 pub struct Fields<'a>(pub std::str::Split<'a, char>);
@@ -106,6 +107,14 @@ pub fn rows_text(rows: &CmpntList) -> String {
         }))
     };
     format!("{} {}", part(true), part(false))
+}
+
+/// The number of qubits at which row i of one list and row j of another hold differing Paulis that are not I. The Rust
+/// has no such number: its rows are read qubit by qubit.
+pub fn clashes(n: usize, left: &CmpntList, i: usize, right: &CmpntList, j: usize) -> usize {
+    let pauli = |rows: &CmpntList, row: usize, q: usize| rows.get_elem_ref(row).get_pauli(q).expect("a qubit below n");
+    let differ = |a: PauliMatrix, b: PauliMatrix| a != PauliMatrix::I && b != PauliMatrix::I && a != b;
+    (0..n).filter(|q| differ(pauli(left, i, *q), pauli(right, j, *q))).count()
 }
 
 pub fn phases_text(phases: &ComplexSignVec) -> String {
