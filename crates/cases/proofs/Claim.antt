@@ -1,4 +1,4 @@
--- P1 to P12 of document 01 and the ends of the floats: the calls' contracts allow, row by row, what it says, by computation. Assumes nothing.
+-- P1 to P12 of RULES 11 and the ends of the floats: the calls' contracts allow, row by row, what it says, by computation. Assumes nothing.
 use mathlib.Core.Path.{_≡_, refl}
 use lib.Ieee.{add, neg}
 use Rattle.pauli.specs.Row.{padMul, mulRow, bitOf}
@@ -23,9 +23,9 @@ pub p1-to-p12 : Table
 unfolding padMul mulRow bitOf commute holding countOf pairRow word unpack bits unbits join pack layRows rowsIn list layIn faultFrom joined some someBelow badBits badPhases countIn commutesWith has distinct mulAt multiply counted first clear pivot columnBy column columns reduce replay units logged capped fallsAfter sumOver whole.elementOf float.elementOf overflows add neg
 p1-to-p12 =
     record {
-      p1 = record { answer = refl; rows = refl };
-      p2 = record { answer = refl; rows = refl };
-      p3 = record { answer = refl; rows = refl };
+      p1 = record { answer = refl; rows = refl; numbers = refl };
+      p2 = record { answer = refl; rows = refl; numbers = refl };
+      p3 = record { answer = refl; rows = refl; numbers = refl };
       p4 = record { answer = refl; state = refl };
       p5 = record { answer = refl; state = refl };
       p6 = refl;

@@ -14,6 +14,7 @@ use Rattle.cmpnt_list.specs.declared.Tally.the-variants.{Number}
 use Rattle.cmpnt_list.specs.declared.Truth.the-variants.{Is}
 use Rattle.cmpnt_list.specs.declared.Phase.the-variants.{Exponent}
 use Rattle.terms.specs.Calls.{Multiplies, Reduces, reducedNumber}
+use Rattle.terms.specs.declared.Clashes.the-variants as clashes
 use Rattle.terms.specs.declared.Canonicalized.the-variants as reduced
 use Rattle.mat_elem_whole.specs.Sums as whole
 use Rattle.mat_elem_whole.specs.declared.Element.{Element}
@@ -68,10 +69,10 @@ abbrev summed : Float → Float → Float → answer.Element
 summed a b c = float.elementOf 1 (0 ∷ 0 ∷ 0 ∷ []) (0 ∷ 0 ∷ 0 ∷ []) (a ∷ b ∷ c ∷ []) (float.plusZero ∷ float.plusZero ∷ float.plusZero ∷ []) 0 0
 
 pub record Table : Type 0 where
-  -- P1 XY: Z, 1. P2 YX: Z, 3. P3 ZX: Y, 1
-  pub p1 : MulPairwise 1 (rowX 0) (rowY 0) (rowI 0) (rowZ 1) Done
-  pub p2 : MulPairwise 1 (rowY 0) (rowX 0) (rowI 0) (rowZ 3) Done
-  pub p3 : MulPairwise 1 (rowZ 0) (rowX 0) (rowI 0) (rowY 1) Done
+  -- P1 XY: Z, 1. P2 YX: Z, 3. P3 ZX: Y, 1; each pair clashes at its one qubit
+  pub p1 : MulPairwise 1 (rowX 0) (rowY 0) (rowI 0) (rowZ 1) (9 ∷ []) (1 ∷ []) Done
+  pub p2 : MulPairwise 1 (rowY 0) (rowX 0) (rowI 0) (rowZ 3) (9 ∷ []) (1 ∷ []) Done
+  pub p3 : MulPairwise 1 (rowZ 0) (rowX 0) (rowI 0) (rowY 1) (9 ∷ []) (1 ∷ []) Done
   -- P4 Y on 1: state 0, 3. P5 Z on 1: state 1, 2
   pub p4 : ImulState 1 (rowY 0) 0 (1 ∷ []) (0 ∷ []) (Exponent (record { 0 = 3 }))
   pub p5 : ImulState 1 (rowZ 0) 0 (1 ∷ []) (1 ∷ []) (Exponent (record { 0 = 2 }))
@@ -82,8 +83,8 @@ pub record Table : Type 0 where
   -- P7 XX against ZZ commutes, XI against ZZ does not
   pub p7 : commutesWith 2 (mem (3 ∷ 0 ∷ []) (0 ∷ 3 ∷ []) (0 ∷ 0 ∷ [])) 0 1 ≡ Is true
   pub p7-not : commutesWith 2 (mem (1 ∷ 0 ∷ []) (0 ∷ 3 ∷ []) (0 ∷ 0 ∷ [])) 0 1 ≡ Is false
-  -- P8 the row X0 with p = 3 times itself: I, p = 2
-  pub p8 : Multiplies 1 0 0 (rowX 3) (rowI 2) Done
+  -- P8 the row X0 with p = 3 times itself: I, p = 2, no clash
+  pub p8 : Multiplies 1 0 0 (rowX 3) (rowI 2) (clashes.Number 0)
   -- P9 a log of 14 units, its 7 entries, t = 3; the rows X0 p = 1, X1 p = 3, Z0 p = 0
   pub p9 : Reduces 2 order listed [] three (9 ∷ 9 ∷ 9 ∷ 9 ∷ 9 ∷ 9 ∷ 9 ∷ 9 ∷ 9 ∷ 9 ∷ 9 ∷ 9 ∷ 9 ∷ 9 ∷ [])
       (mem (1 ∷ 2 ∷ 0 ∷ []) (0 ∷ 0 ∷ 1 ∷ []) (1 ∷ 3 ∷ 0 ∷ [])) (0 ∷ 1 ∷ 1 ∷ 0 ∷ 2 ∷ 0 ∷ 1 ∷ 2 ∷ 0 ∷ 1 ∷ 2 ∷ 1 ∷ 1 ∷ 2 ∷ []) (reduced.Done 7 3)

@@ -5,25 +5,26 @@ use Prim.Native.Nat.{ℕ, _<_}
 use borrow.Author.Tests.{eq-eqb}
 use Rattle.pauli.specs.Pauli.{hasX, hasZ}
 use Rattle.pauli.specs.Row.{Row, mulRow}
+use Rattle.pauli.specs.Rows.{clashesOf}
 use Rattle.encoding.specs.Limits.{wordsOf}
 use Rattle.encoding.specs.Words.{pack}
 use Rattle.encoding.specs.Set.{row, Mem, count, rowsOf, lay, layIn, Valid}
 use Rattle.encoding.specs.Refusals.{fault, setTests, rowsTests, leftOr}
-use Rattle.encoding.specs.declared.Answer.the-variants.{Done}
 use Rattle.encoding.proofs.WordLaws.{Fit, xors}
 use Rattle.encoding.proofs.Parts.{row-lay-list}
-use Rattle.encoding.proofs.Faults.{done-none}
 use Rattle.encoding.proofs.Memory.{valid-of, within-limits}
 use Rattle.encoding.proofs.Sets.{read-proper, rows-in}
 use Rattle.encoding.proofs.Again.{lay-passes}
 use Rattle.products.proofs.Xor.{product-x, product-z}
 use Rattle.reduction.specs.Rule.{mulAt}
 use Rattle.terms.specs.Calls.{Multiplies}
+use Rattle.terms.specs.declared.Clashes.the-variants as clash
+use Rattle.terms.proofs.Meaning.{given}
 use Rattle.terms.proofs.Finished.{proper-mul}
 
-module _ (n a b : ℕ) {M M′ : Mem} (c : Multiplies n a b M M′ Done) where
+module _ (n a b : ℕ) {M M′ : Mem} {d : ℕ} (c : Multiplies n a b M M′ (clash.Number d)) where
   none-fits : fault (rowsTests n M a b) ≡ 0
-  none-fits = done-none (fault (rowsTests n M a b)) (sym (c .answer))
+  none-fits = given (fault (rowsTests n M a b)) (clashesOf n (rowsOf n M a) (rowsOf n M b)) d (sym (c .answer)) .0
 
   both : (fault (setTests n M) ≡ 0) × (a < count M) × (b < count M)
   both = rows-in n M a b none-fits

@@ -1,4 +1,4 @@
--- `imul` in the words of document 01: row a becomes the product of the matrices, no other row changes, and the number says whether the rows commuted.
+-- `imul` in the words of RULES 4.9 and 4.18: row a becomes the product of the matrices, no other row changes, and the number says whether the rows commuted.
 -- Assumes nothing.
 use mathlib.Core.Path.{_≡_, refl, sym, ap, _∙_, subst}
 use mathlib.Core.Bool.{cond, _||_}
@@ -24,7 +24,8 @@ use Rattle.terms.specs.Calls.{Multiplies, clashesOr}
 use Rattle.terms.specs.declared.Clashes.the-variants as clash
 use Rattle.terms.proofs.Finished.{proper-mul}
 
-given : (f v d : ℕ) → clashesOr f v ≡ clash.Number d → (f ≡ 0) × (v ≡ d)
+-- a number was answered, so nothing was refused
+pub given : (f v d : ℕ) → clashesOr f v ≡ clash.Number d → (f ≡ 0) × (v ≡ d)
 given zero v d e = (refl, cc)
 given (suc k) v d e = let z : _≡_ {A = ℕ} 0 1 = cc in absurd (omega arith)
 
