@@ -1,0 +1,4 @@
+pub mod Reading
+pub mod Exact
+pub mod Editions
+pub mod Sharp
