@@ -5,7 +5,7 @@ use std::collections::BTreeMap;
 use std::io::{Read, Write};
 use std::process::{Command, Stdio};
 
-use crate::line::{is_case, parsed, CALLS};
+use crate::line::{is_case, parsed, Case, CALLS};
 use crate::model;
 
 /// The programs to be asked, each with its arguments.
@@ -35,8 +35,19 @@ struct Tally {
     calls_rust: Count,
 }
 
+/// Floats that are whole numbers: `elemi` and `elemf` on the same terms, sums of `elemf` up to the bound, which have to be
+/// the whole-number sums, and sums above it, which need not.
+#[derive(Default)]
+struct Wholes {
+    pairs: Count,
+    within: Count,
+    above: Count,
+    last: Option<(Case, Vec<Option<String>>)>,
+}
+
 #[derive(Default)]
 pub struct Run {
+    wholes: Wholes,
     tallies: BTreeMap<&'static str, Tally>,
     kinds: BTreeMap<String, u64>,
     waiting: Vec<String>,
@@ -171,6 +182,7 @@ impl Run {
                 agree &= counted(&mut tally.calls_rust, agrees_with_rust(calls, rust));
             }
         }
+        agree &= self.wholes.judge(line, [Some(model), rust, calls]);
         if !agree {
             self.show(line, model, rust, calls);
         }
@@ -201,8 +213,77 @@ impl Run {
         print_row("all", &sum);
         let kinds: Vec<String> = self.kinds.iter().map(|(kind, count)| format!("{kind}: {count}")).collect();
         println!("answers of the model: {}", kinds.join(", "));
+        println!("{}", self.wholes.report());
         println!("cases with a difference: {}", self.shown);
-        self.shown
+        self.shown + self.wholes.blind() as usize
+    }
+}
+
+impl Wholes {
+    /// Whether all answers to a line, and to the line before where it has the same terms, agree as whole numbers.
+    fn judge(&mut self, line: &str, answers: [Option<&str>; 3]) -> bool {
+        let last = self.last.take();
+        let Some(case) = parsed(line).filter(|case| matches!(case.call, "elemi" | "elemf")) else { return true };
+        let mut agree = true;
+        if let Some((_, before)) = last.filter(|(whole, _)| same_terms(whole, &case)) {
+            let same = before.iter().zip(answers).all(|(a, b)| same_element(a.as_deref(), b));
+            agree &= counted(&mut self.pairs, same);
+        }
+        if let Some(sum) = model::whole_sum(&case) {
+            let exact = answers.iter().flatten().all(|answer| element("elemf", answer) == Some(sum.parts));
+            if sum.size <= model::EXACT as i128 {
+                agree &= counted(&mut self.within, exact);
+            } else {
+                self.above.add(exact);
+            }
+        }
+        self.last = Some((case, answers.iter().map(|answer| answer.map(str::to_string)).collect()));
+        agree
+    }
+
+    /// Whether the comparison could not have seen a bound that is too large.
+    fn blind(&self) -> bool {
+        self.above.differing == 0
+    }
+
+    fn report(&self) -> String {
+        let text = |count: &Count| format!("{}, {} differ", count.compared, count.differing);
+        let (pairs, within, above) = (text(&self.pairs), text(&self.within), text(&self.above));
+        let blind = if self.blind() { ": no sum above the bound was another number, which is an error" } else { "" };
+        format!("elemi and elemf on the same terms: {pairs}; sums of elemf within the bound: {within}; above it: {above}{blind}")
+    }
+}
+
+/// Whether an `elemi` and an `elemf` have the same terms, bra and ket.
+fn same_terms(whole: &Case, float: &Case) -> bool {
+    let same_part = |i: usize| {
+        let wholes = whole.ints(i).iter().map(|part| Some(*part as i128));
+        wholes.eq(float.words(i).iter().map(|bits| model::whole(*bits)))
+    };
+    let editions = whole.call == "elemi" && float.call == "elemf";
+    editions && [0, 1, 2, 5, 6].iter().all(|i| whole.fields[*i] == float.fields[*i]) && same_part(3) && same_part(4)
+}
+
+/// An answer as whole numbers; no block is zero.
+fn element(call: &str, answer: &str) -> Option<(i128, i128)> {
+    if answer == "none" {
+        return Some((0, 0));
+    }
+    let (re, im) = answer.strip_prefix("ok ")?.split_once(' ')?;
+    let part = |text: &str| match call {
+        "elemf" => model::whole(u64::from_str_radix(text, 16).ok()?),
+        _ => text.parse().ok(),
+    };
+    Some((part(re)?, part(im)?))
+}
+
+/// Whether a program gave both editions the same answer: the same numbers, or the same words where there is no sum.
+fn same_element(whole: Option<&str>, float: Option<&str>) -> bool {
+    match (whole, float) {
+        (Some(whole), Some(float)) if whole.starts_with("ok ") => {
+            float != "none" && element("elemi", whole).is_some() && element("elemi", whole) == element("elemf", float)
+        }
+        _ => whole == float,
     }
 }
 

@@ -47,6 +47,7 @@ fn list() -> Vec<String> {
     random(&mut out);
     last_ones(&mut out);
     clashes(&mut out);
+    whole_numbers(&mut out);
     out
 }
 
@@ -505,4 +506,35 @@ fn clashes(out: &mut Vec<String>) {
     let lengths = Field::Lengths([48, 48, 3, 3]);
     let more = vec![Field::Words(right.x), Field::Words(right.z), Field::Bytes(right.p), lengths];
     out.push(valid::call_on("pair", 1024, &rows, more).line());
+}
+
+/// The example of docs/ENERGIES.md, sums of whole numbers at and past the bound, and the order of terms.
+fn whole_numbers(out: &mut Vec<String>) {
+    group(
+        out,
+        "whole numbers in both editions",
+        &[
+            "elemi 2 0,0,0,0,3 0,1,2,3,0 -3,2,2,1,4 0,0,0,0,0 1 1",
+            "elemf 2 0,0,0,0,3 0,1,2,3,0 c008000000000000,4000000000000000,4000000000000000,3ff0000000000000,4010000000000000 \
+             0,0,0,0,0 1 1",
+            "elemi 2 0,0,0,0,3 0,1,2,3,0 -3,2,2,1,4 0,0,0,0,0 0 3",
+            "elemf 2 0,0,0,0,3 0,1,2,3,0 c008000000000000,4000000000000000,4000000000000000,3ff0000000000000,4010000000000000 \
+             0,0,0,0,0 0 3",
+            "elemi 2 0,0,0,0,3 0,1,2,3,0 -3,2,2,1,4 0,0,0,0,0 0 1",
+            "elemf 2 0,0,0,0,3 0,1,2,3,0 c008000000000000,4000000000000000,4000000000000000,3ff0000000000000,4010000000000000 \
+             0,0,0,0,0 0 1",
+        ],
+    );
+    out.push("# absolute values that add up to 2 to the 53, and to one and two more; the order of terms".to_string());
+    let bound = model::EXACT as f64;
+    let blocks = [
+        vec![bound - 1.0, 1.0],
+        vec![bound, 1.0],
+        vec![1.0, bound],
+        vec![bound, 1.0, 1.0],
+        vec![1.0, 1.0, bound],
+        vec![1.0, 1e16, -1e16],
+        vec![-1e16, 1e16, 1.0],
+    ];
+    out.extend(blocks.iter().map(|block| block_of(&block.iter().map(|part| part.to_bits()).collect::<Vec<_>>())));
 }

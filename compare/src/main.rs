@@ -17,6 +17,7 @@ mod reduction;
 mod rows;
 mod small;
 mod valid;
+mod whole;
 
 use std::io::{BufRead, Write};
 use std::process::exit;

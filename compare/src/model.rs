@@ -330,3 +330,36 @@ fn elemi(case: &Case) -> String {
     }
     format!("ok {re} {im}")
 }
+
+// ---- floats that are whole numbers
+
+/// 2 to the 53: up to this sum of absolute values a float sum of whole numbers is exact.
+pub const EXACT: i64 = 1 << 53;
+
+/// The whole number that these bits of an f64 are, where it is one and below 2 to the 100.
+pub fn whole(bits: u64) -> Option<i128> {
+    let value = f64::from_bits(bits);
+    let fits = value.is_finite() && value.fract() == 0.0 && value.abs() < 2f64.powi(100);
+    fits.then_some(value as i128)
+}
+
+/// The sum over the block in whole numbers, and the absolute values of all its parts added up.
+pub struct WholeSum {
+    pub parts: (i128, i128),
+    pub size: i128,
+}
+
+/// That of an `elemf` that 1 to 11 do not refuse and whose block's parts are all whole numbers.
+pub fn whole_sum(case: &Case) -> Option<WholeSum> {
+    if case.call != "elemf" || refusal(case).is_some() {
+        return None;
+    }
+    let mut sum = WholeSum { parts: (0, 0), size: 0 };
+    for (i, exponent) in block(case) {
+        let (re, im) = (whole(case.words(3)[i])?, whole(case.words(4)[i])?);
+        let (a, b) = turned(re, im, exponent);
+        sum.parts = (sum.parts.0 + a, sum.parts.1 + b);
+        sum.size += re.abs() + im.abs();
+    }
+    Some(sum)
+}
