@@ -6,7 +6,7 @@ use native.Mathlib.Nat.{mul-le-mul}
 use native.Mathlib.Omega.{arith}
 use borrow.Rule.Slice.PartMut.{putMid}
 use lib.ListN.{length}
-use Rattle.encoding.specs.Limits.{maxQubits, maxRows, wordsOf}
+use Rattle.encoding.specs.Limits.{maxQubits, maxRows, maxWords, wordsOf}
 use Rattle.encoding.specs.Words.{unpack}
 use Rattle.encoding.specs.Set.{part, row, Mem}
 use Rattle.encoding.proofs.Parts.{row-end, length-part}
@@ -26,10 +26,10 @@ row-at r n m {w} h e =
     }
 
 -- within the limits the numbers stay small
-pub row-small : (r n m : ℕ) {w : ℕ} → r < m → n ≤ maxQubits → m ≤ maxRows → w ≡ wordsOf n → r * w ≤ 4096
+pub row-small : (r n m : ℕ) {w : ℕ} → r < m → n ≤ maxQubits → m ≤ maxRows → w ≡ wordsOf n → r * w ≤ maxRows * maxWords
 row-small r n m {w} h hn hm e =
-    let a : r ≤ 256 = omega arith in
-    let b : w ≤ 16 = omega arith in
+    let a : r ≤ maxRows = omega arith in
+    let b : w ≤ maxWords = omega arith in
     mul-le-mul a b
 
 module _ {r w m a e : ℕ} (p : RowAt r w m a e) where

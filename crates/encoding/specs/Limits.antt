@@ -1,12 +1,12 @@
--- RULES 3.1, the limits: n qubits, 0 to 1,024; m rows, 0 to 256. The code's MAX_QUBITS, MAX_ROWS, MAX_PHASE and MAX_COLUMNS
+-- RULES 3.1, the limits: n qubits, 0 to 4,096; m rows, 0 to 4,096. The code's MAX_QUBITS, MAX_ROWS, MAX_PHASE and MAX_COLUMNS
 -- follow them. Assumes nothing.
 use Prim.Native.Nat.{ℕ, _+_, _/_}
 
 abbrev pub maxQubits : ℕ
-maxQubits = 1024
+maxQubits = 4096
 
 abbrev pub maxRows : ℕ
-maxRows = 256
+maxRows = 4096
 
 -- a phase byte p, 0 to 3, means i to the p
 abbrev pub maxPhase : ℕ

@@ -14,9 +14,9 @@ ghost use Rattle.encoding.specs.Refusals.{fault, least, some, isOn, badL
 use pauli::PauliMatrix;
 use pauli::QubitNumber;
 
-pub const MAX_QUBITS: usize = 1024;
+pub const MAX_QUBITS: usize = 4096;
 
-pub const MAX_ROWS: usize = 256;
+pub const MAX_ROWS: usize = 4096;
 
 // The largest phase byte.
 pub const MAX_PHASE: u8 = 3;

@@ -16,7 +16,7 @@ mod reduce;
 pub mod rows;
 
 // The columns of the longest row: X and Z of each qubit.
-const MAX_COLUMNS: usize = 2048;
+const MAX_COLUMNS: usize = 2 * encoding::MAX_QUBITS;
 
 // What a reduction answers: done, with the number of log entries and of pivots; full (refusal 8), with the log's capacity; refused, with its number.
 pub enum Canonicalized {

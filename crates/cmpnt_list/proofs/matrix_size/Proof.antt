@@ -4,12 +4,13 @@ use Prim.Native.Nat.{ℕ, _*_, _≤_}
 use native.Mathlib.Nat.{mul-le-mul}
 use native.Mathlib.Omega.{arith}
 use borrow.Author.Needs.{needs}
+use Rattle.encoding.specs.Limits.{maxRows, wordsOf}
 use Rattle.cmpnt_list.proofs.matrix_size.Statement.{statement}
 use Rattle.cmpnt_list.proofs.matrix_size.Tie as tie
 
 mul-result : tie.Need-mul-result
 mul-result c =
-    let w : c .words .result ≤ 4 = omega arith in
+    let w : c .words .result ≤ wordsOf maxRows = omega arith in
     omega (arith, mul-le-mul (c .before .pre) w)
 
 returns : tie.Need-returns

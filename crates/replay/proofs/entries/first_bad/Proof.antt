@@ -3,6 +3,7 @@ use mathlib.Core.Path.{subst, _≡_, sym, _∙_}
 use borrow.Author.Needs.{needs}
 use Rattle.encoding.specs.Refusals.{some, tooLarge}
 use Rattle.reduction.specs.Log.{pairs}
+use Rattle.encoding.specs.Limits.{maxRows}
 use Rattle.replay.proofs.Marks.{first-by-lists}
 use Rattle.replay.proofs.entries.first_bad.Statement.{statement}
 use Rattle.replay.proofs.entries.first_bad.Tie as tie
@@ -16,7 +17,7 @@ returns c =
     let a = c .before .before .before .before .before .before .before .before .before .before .before .args in
     let m = c .before .before .before .before .before .before .mark in
     let l = c .before .before .before .mark2 in
-    c .first-bad-by .ensures ∙ first-by-lists (a .listed .now) (a .extra .now) (m .last .1 .1 .0) (l .last .1 .1 .0) 256 (m .ensures) (l .ensures) 0 (pairs (a .log .now))
+    c .first-bad-by .ensures ∙ first-by-lists (a .listed .now) (a .extra .now) (m .last .1 .1 .0) (l .last .1 .1 .0) maxRows (m .ensures) (l .ensures) 0 (pairs (a .log .now))
 
 pub first-bad-spec : {M : Type 1} → statement M
 first-bad-spec =
