@@ -4,24 +4,18 @@ use mathlib.Core.Logic.{⊎-elim}
 use mathlib.Core.Bool.{Bool, true, false, cond, not, _&&_, _||_}
 use mathlib.Core.List.{List, [], _∷_, _++_}
 use mathlib.Core.Option.{some}
-use Prim.Native.Nat.{ℕ, zero, suc, _+_, _≤_, _<_}
+use Prim.Native.Nat.{ℕ, suc, _+_, _≤_, _<_}
 use native.Mathlib.Numerals.{add-one}
-use borrow.Author.Tests.{eq-eqb, ne-eqb, leb-false}
+use borrow.Author.Tests.{eq-eqb, ne-eqb}
 use lib.Dec.{eqb, leb}
 use lib.ListN.{length, getD, drop, set, replicate, drop-of-length-le}
 use lib.Seq.{drop-cons, getD-set-same, getD-set-other}
-use Rattle.encoding.specs.Refusals.{tooLarge}
-use Rattle.encoding.specs.Refusals as refusals
-use Rattle.encoding.proofs.Scan.{some-none}
 use Rattle.reduction.specs.Lists.{has}
 use Rattle.reduction.specs.Rule.{Entry, entry}
 use Rattle.reduction.specs.Checker.{good, firstBad}
 use Rattle.reduction.proofs.Lists.{same?}
+use Rattle.terms.proofs.Scans.{zeros}
 use Rattle.replay.specs.Steps.{Marked, goodBy, firstBadBy}
-
--- a number of a list in which none is m or above
-pub small : (l : List ℕ) (m i : ℕ) → refusals.some (tooLarge m) l ≡ false → i < length l → getD l i 0 < m
-small l m i e h = leb-false m (getD l i 0) (some-none (tooLarge m) 0 l e i h)
 
 -- ---- marking a list: what is left to mark, marked from here, is the whole, marked from the start
 
@@ -73,11 +67,6 @@ has-append k (x ∷ xs) ys = ap (λ b. eqb k x || b) (has-append k xs ys) ∙ go
     go : (b : Bool) → (b || (has k xs || has k ys)) ≡ (b || has k xs || has k ys)
     go true = refl
     go false = refl
-
-zeros : (m k : ℕ) → getD (replicate {A = ℕ} m 0) k 0 ≡ 0
-zeros zero k = refl
-zeros (suc m) zero = refl
-zeros (suc m) (suc k) = zeros m k
 
 module _ (listed extra marks marks′ : List ℕ) (m : ℕ) (e : Marked extra 1 (replicate {A = ℕ} m 0) marks) (l : Marked listed 2 marks marks′) where
   table : (k : ℕ) → getD marks′ k 0 ≡ cond (has k listed) 2 (cond (has k extra) 1 0)

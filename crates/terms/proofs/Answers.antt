@@ -3,8 +3,8 @@ use Prim.Native.Nat.{ℕ, zero, suc, _+_, _-_, _/_, _<_, _≤_}
 use native.Mathlib.Decide.{ℕ-discrete}
 use native.Mathlib.Omega.{arith}
 use mathlib.Core.Path.{_≡_, refl, sym, ap, ap₂, _∙_, subst}
-use mathlib.Core.Bool.{true, false, cond, _||_}
-use mathlib.Core.List.{List, []}
+use mathlib.Core.Bool.{Bool, true, false, cond, _||_}
+use mathlib.Core.List.{List, [], _∷_}
 use lib.Arith.{lt-of-le-ne}
 use lib.ListN.{length, getD, take, set}
 use lib.Seq.{length-take-le, ext-getD, getD-take, getD-set-same, getD-set-other}
@@ -12,7 +12,7 @@ use borrow.Author.Tests.{leb-false}
 use Rattle.pauli.specs.Row.{Row, mulRow, bitRow}
 use Rattle.encoding.specs.Limits.{maxQubits, maxRows, wordsOf}
 use Rattle.encoding.specs.Set.{Mem, count, rowsOf, lay, Valid, Sound}
-use Rattle.encoding.specs.Refusals.{fault, least, tooLarge, setTests, numberTests, leftOr, rowsTests}
+use Rattle.encoding.specs.Refusals.{faultFrom, fault, joined, least, tooLarge, setTests, numberTests, leftOr, rowsTests}
 use Rattle.encoding.proofs.Scan.{none-of}
 use Rattle.encoding.proofs.Faults.{both-parts, least-none, not-large, number-is, refusing}
 use Rattle.encoding.proofs.Memory.{laid}
@@ -39,6 +39,17 @@ use Rattle.terms.proofs.RowView.{mul-view, clashes-view}
 
 -- ---- what no refusal leaves
 
+-- a number of five tests comes before those of a list that begins with the sixth
+before-six : (a b c d e : Bool) (us : List Bool) {f : ℕ} → f ≡ fault (a ∷ b ∷ c ∷ d ∷ e ∷ []) → (f ≡ 0 → ⊥)
+    → f ≡ fault (joined (a ∷ b ∷ c ∷ d ∷ e ∷ []) (false ∷ false ∷ false ∷ false ∷ false ∷ us))
+unfolding faultFrom joined
+before-six true b c d e us p ne = p
+before-six false true c d e us p ne = p
+before-six false false true d e us p ne = p
+before-six false false false true e us p ne = p
+before-six false false false false true us p ne = p
+before-six false false false false false us p ne = absurd (ne p)
+
 module _ (n : ℕ) (M : Mem) {f : ℕ} (ef : f ≡ fault (setTests n M)) (v : f ≡ 0 → Valid n (wordsOf n) M) where
   pub imul-told : (a b : ℕ) (g r : ℕ) → g ≡ cond (tooLarge (count M) a || tooLarge (count M) b) 6 0 → r ≡ least f g
       → (r ≡ fault (rowsTests n M a b)) × (r ≡ 0 → BothIn n a b M)
@@ -51,11 +62,16 @@ module _ (n : ℕ) (M : Mem) {f : ℕ} (ef : f ≡ fault (setTests n M)) (v : f 
             record { sound = sound-of n M ef v (p .0); a-in = leb-false (count M) a (q .0); b-in = leb-false (count M) b (q .1) },
       )
 
-  pub reduce-told : (order listed extra : List ℕ) (g r : ℕ) → g ≡ fault (listTests n (count M) order listed extra) → r ≡ least f g
-      → (r ≡ fault (reduceTests n M order listed extra)) × (r ≡ 0 → Reducible n order listed extra M)
-  reduce-told order listed extra g r eg er = (
-    both-parts (setTests n M) (listTests n (count M) order listed extra) ef eg er,
-    λ z. let p = least-none f g (sym er ∙ z) in record { sound = sound-of n M ef v (p .0); asked = asked-of n (count M) order listed extra (sym eg ∙ p .1) },
+  -- the set's number comes before those of the lists
+  pub reduce-first : (order listed extra : List ℕ) → (f ≡ 0 → ⊥) → (f ≡ fault (reduceTests n M order listed extra)) × (f ≡ 0 → Reducible n order listed extra M)
+  reduce-first order listed extra ne = (before-six _ _ _ _ _ _ ef ne, λ z. absurd (ne z))
+
+  pub reduce-told : (order listed extra : List ℕ) (g : ℕ) → f ≡ 0 → g ≡ fault (listTests n (count M) order listed extra)
+      → (g ≡ fault (reduceTests n M order listed extra)) × (g ≡ 0 → Reducible n order listed extra M)
+  unfolding least
+  reduce-told order listed extra g z eg = (
+    both-parts (setTests n M) (listTests n (count M) order listed extra) ef eg (ap (λ k. least k g) (sym z)),
+    λ e. record { sound = sound-of n M ef v z; asked = asked-of n (count M) order listed extra (sym eg ∙ e) },
   )
 
 -- the numbers of the lists by their places

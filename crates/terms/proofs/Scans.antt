@@ -2,23 +2,24 @@
 use mathlib.Core.Path.{_≡_, refl, sym, ap, ap₂, _∙_, subst}
 use mathlib.Core.Logic.{⊎-elim}
 use mathlib.Core.Bool.{Bool, true, false, cond, not, _&&_, _||_}
-use mathlib.Core.List.{List}
-use Prim.Native.Nat.{ℕ, _+_, _-_, _≤_, _<_}
+use mathlib.Core.List.{List, [], _∷_}
+use Prim.Native.Nat.{ℕ, zero, suc, _+_, _-_, _≤_, _<_}
 use native.Mathlib.Decide.{decLe}
 use native.Mathlib.Nat.{add-zero}
 use native.Mathlib.Numerals.{add-one}
 use native.Mathlib.Omega.{arith}
 use borrow.Author.Tests.{le-leb, lt-leb, leb-false, eq-eqb, ne-eqb, not-false}
-use lib.Dec.{leb}
-use lib.ListN.{length, getD, drop, drop-of-length-le}
-use lib.Seq.{drop-cons}
+use lib.Dec.{leb, eqb}
+use lib.ListN.{length, getD, drop, set, replicate, drop-of-length-le}
+use lib.Seq.{drop-cons, getD-set-same, getD-set-other}
 use Rattle.encoding.specs.Refusals.{faultFrom, fault, some, tooLarge}
-use Rattle.encoding.proofs.Scan.{none-of, some-none}
+use Rattle.encoding.proofs.Scan.{none-of, some-none, some-never}
 use Rattle.encoding.proofs.Faults.{no-test}
-use Rattle.reduction.specs.Lists.{In, has, distinct}
+use Rattle.reduction.specs.Lists.{In, has, distinct, every}
 use Rattle.reduction.specs.Demand.{Asked}
-use Rattle.reduction.proofs.Lists.{distinct→, most-below, place-of, in-either}
+use Rattle.reduction.proofs.Lists.{distinct→, place-of, in-either, same?, →every}
 use Rattle.terms.specs.Refused.{largeNumber, repeated, listTests}
+use Rattle.terms.specs.Work.{Blank}
 
 -- ---- a + b or above, without the sum
 
@@ -32,35 +33,86 @@ above-part a b k h = go (decLe b (k - a))
     go (yes l) = le-leb b (k - a) l ∙ sym (le-leb (a + b) k (omega arith))
     go (no l) = lt-leb b (k - a) (omega arith) ∙ sym (lt-leb (a + b) k (omega arith))
 
--- ---- a number in what is left of a list
+-- ---- a number there twice, by marks: what is left of the list has no repeat and finds no mark exactly when the whole list has no repeat
 
-module _ (l : List ℕ) (k j : ℕ) (h : j < length l) where
-  pub has-here : getD l j 0 ≡ k → has k (drop j l) ≡ true
-  unfolding has
-  has-here e = rw (drop-cons l j 0 h, eq-eqb k (getD l j 0) (sym e))
+abbrev free : List ℕ → ℕ → Bool
+free marks k = eqb (getD marks k 0) 0
 
-  pub has-next : (getD l j 0 ≡ k → ⊥) → has k (drop (j + 1) l) ≡ has k (drop j l)
-  unfolding has
-  has-next ne = rw (add-one j, drop-cons l j 0 h, ne-eqb k (getD l j 0) (λ e. ne (sym e)))
+abbrev pub Marking : List ℕ → ℕ → List ℕ → Type 0
+Marking l i marks = (every (free marks) (drop i l) && distinct (drop i l)) ≡ distinct l
 
-pub has-end : (l : List ℕ) (k j : ℕ) → length l ≤ j → has k (drop j l) ≡ false
-unfolding has
-has-end l k j h = ap (has k) (drop-of-length-le l h)
+-- after marking k, those are free that were and are not k
+every-set : (marks ks : List ℕ) (k : ℕ) → k < length marks → every (free (set marks k 1)) ks ≡ (not (has k ks) && every (free marks) ks)
+unfolding has every
+every-set marks [] k h = refl
+every-set marks (j ∷ ks) k h = ⊎-elim at (off (every-set marks ks k h)) (same? j k)
+  where
+    at : j ≡ k → (free (set marks k 1) j && every (free (set marks k 1)) ks) ≡ (not (eqb k j || has k ks) && (free marks j && every (free marks) ks))
+    at e =
+        ap (λ v. eqb v 0 && every (free (set marks k 1)) ks) (ap (λ t. getD (set marks k 1) t 0) e ∙ getD-set-same marks k 1 0 h)
+        ∙ sym (ap (λ b. not (b || has k ks) && (free marks j && every (free marks) ks)) (eq-eqb k j (sym e)))
 
--- ---- a number there twice in what is left of a list
+    swap : (f n e : Bool) → (f && (n && e)) ≡ (n && (f && e))
+    swap true n e = refl
+    swap false true e = refl
+    swap false false e = refl
 
-module _ (l : List ℕ) (i : ℕ) (h : i < length l) where
-  pub repeat-here : has (getD l i 0) (drop (i + 1) l) ≡ true → distinct (drop i l) ≡ false
-  unfolding distinct
-  repeat-here e = rw (drop-cons l i 0 h, ← add-one i, e)
+    off : every (free (set marks k 1)) ks ≡ (not (has k ks) && every (free marks) ks)
+        → (j ≡ k → ⊥) → (free (set marks k 1) j && every (free (set marks k 1)) ks) ≡ (not (eqb k j || has k ks) && (free marks j && every (free marks) ks))
+    off rest ne =
+        ap₂ (λ v b. eqb v 0 && b) (getD-set-other marks k j 1 0 ne) rest
+        ∙ swap (free marks j) (not (has k ks)) (every (free marks) ks)
+        ∙ sym (ap (λ b. not (b || has k ks) && (free marks j && every (free marks) ks)) (ne-eqb k j (λ e. ne (sym e))))
 
-  pub repeat-next : has (getD l i 0) (drop (i + 1) l) ≡ false → distinct (drop (i + 1) l) ≡ distinct (drop i l)
-  unfolding distinct
-  repeat-next e = sym (ap distinct (drop-cons l i 0 h) ∙ ap (λ j. not (has (getD l i 0) (drop j l)) && distinct (drop j l)) (sym (add-one i)) ∙ ap (λ b. not b && distinct (drop (i + 1) l)) e)
+pub marking-start : (l marks : List ℕ) → Blank marks → Marking l 0 marks
+marking-start l marks z = ap (λ b. b && distinct l) (all-free l)
+  where
+    all-free : (ks : List ℕ) → every (free marks) ks ≡ true
+    all-free ks = →every (free marks) ks (λ k i. eq-eqb (getD marks k 0) 0 (z k))
 
-pub repeat-end : (l : List ℕ) (i : ℕ) → length l ≤ i → distinct (drop i l) ≡ true
-unfolding distinct
-repeat-end l i h = ap distinct (drop-of-length-le l h)
+module _ (l : List ℕ) (i : ℕ) (marks : List ℕ) (h : i < length l) (m : Marking l i marks) where
+  here : ℕ
+  here = getD l i 0
+
+  left : List ℕ
+  left = drop (i + 1) l
+
+  parted : ((free marks here && every (free marks) left) && (not (has here left) && distinct left)) ≡ distinct l
+  unfolding every distinct here left
+  parted = sym (ap (λ ks. every (free marks) ks && distinct ks) (drop-cons l i 0 h ∙ ap (λ j. getD l i 0 ∷ drop j l) (sym (add-one i)))) ∙ m
+
+  pub marked-here : (getD marks (getD l i 0) 0 ≡ 0 → ⊥) → distinct l ≡ false
+  unfolding here
+  marked-here ne = sym (ap (λ b. (b && every (free marks) left) && (not (has here left) && distinct left)) (sym (ne-eqb (getD marks here 0) 0 ne)) ∙ parted)
+
+  pub marking-next : getD l i 0 < length marks → getD marks (getD l i 0) 0 ≡ 0 → Marking l (i + 1) (set marks (getD l i 0) 1)
+  unfolding here left
+  marking-next g e =
+      ap (λ b. b && distinct left) (every-set marks left here g) ∙ turned (not (has here left)) (every (free marks) left) (distinct left)
+      ∙ ap (λ b. (b && every (free marks) left) && (not (has here left) && distinct left)) (sym (eq-eqb (getD marks here 0) 0 e))
+      ∙ parted
+    where
+      turned : (n e d : Bool) → ((n && e) && d) ≡ ((true && e) && (n && d))
+      turned true e d = refl
+      turned false true d = refl
+      turned false false d = refl
+
+pub marking-end : (l : List ℕ) (i : ℕ) (marks : List ℕ) → length l ≤ i → Marking l i marks → distinct l ≡ true
+unfolding every distinct
+marking-end l i marks h m = sym (sym (ap (λ ks. every (free marks) ks && distinct ks) (drop-of-length-le l h)) ∙ m)
+
+-- a table as it is made
+pub zeros : (m k : ℕ) → getD (replicate {A = ℕ} m 0) k 0 ≡ 0
+zeros zero k = refl
+zeros (suc m) zero = refl
+zeros (suc m) (suc k) = zeros m k
+
+-- a number of a list in which none is m or above; and none is where the limit is raised
+pub small : (l : List ℕ) (m i : ℕ) → some (tooLarge m) l ≡ false → i < length l → getD l i 0 < m
+small l m i e h = leb-false m (getD l i 0) (some-none (tooLarge m) 0 l e i h)
+
+pub raised : (l : List ℕ) (m n : ℕ) → some (tooLarge m) l ≡ false → m ≤ n → some (tooLarge n) l ≡ false
+raised l m n e h = some-never (tooLarge n) 0 l (λ i g. lt-leb n (getD l i 0) (omega (arith, small l m i e g)))
 
 -- what no test of the list found is below the limit
 pub all-below : (m : ℕ) (l : List ℕ) → some (tooLarge m) l ≡ false → (k : ℕ) → In k l → k < m
@@ -68,14 +120,6 @@ all-below m l e k i =
     let p = place-of k l i in
     let f : tooLarge m (getD l (p .0) 0) ≡ false = some-none (tooLarge m) 0 l e (p .0) (p .1) in
     subst (λ j. j < m) (sym (p .2)) (leb-false m (getD l (p .0) 0) f)
-
--- more than m numbers below m are not all different
-pub too-many : (m : ℕ) (l : List ℕ) → some (tooLarge m) l ≡ false → m < length l → true ≡ repeated l
-too-many m l e h = go (distinct l) refl
-  where
-    go : (b : Bool) → distinct l ≡ b → true ≡ not (distinct l)
-    go false d = sym (ap not d)
-    go true d = absurd (omega (arith, most-below m l (distinct→ l d) (all-below m l e)))
 
 -- ---- the ladder, and what it leaves
 

@@ -23,6 +23,10 @@ pub record Keeps (n : ℕ) (M₀ M : Mem) : Type 0 where
 abbrev pub Below : ℕ → List ℕ → Type 0
 Below m l = (i : ℕ) → i < length l → getD l i 0 < m
 
+-- no number is marked in the table
+abbrev pub Blank : List ℕ → Type 0
+Blank marks = (k : ℕ) → getD marks k 0 ≡ 0
+
 -- what every worker asks: a row set, room for the entries that are there, a run that goes on
 pub record Ready (n : ℕ) (M : Mem) (log : List ℕ) (s : Progress) : Type 0 where
   pub sound : Sound n M

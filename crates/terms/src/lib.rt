@@ -60,7 +60,8 @@ pub fn imul(
     Clashes::Number(rows::imul_unchecked(n, x, z, phases, a, b))
 }
 
-// The first number of the table that fits a set, an order and two lists, or 0.
+// The first number of the table that fits a set, an order and two lists, or 0. The set's numbers come first, so the lists are looked at within
+// the limits only.
 pub fn reduce_fault(
     n: usize,
     x: &[u64],
@@ -74,7 +75,10 @@ pub fn reduce_fault(
     ensures passed { λ r. ⌜ (r ≡ 0 → Reducible n (now (order .entry)) (now (listed .entry)) (now (extra .entry)) (mem (now (x .entry)) (now (z .entry)) (now (phases .entry)))) ⌝ }
 {
     let f = encoding::set_fault(n, x, z, phases);
-    encoding::smaller(f, lists::lists_fault(n, phases.len(), order, listed, extra))
+    if f != 0 {
+        return f;
+    }
+    lists::lists_fault(n, phases.len(), order, listed, extra)
 }
 
 // The reduction of a set that the refusals passed.

@@ -1,11 +1,13 @@
 // Refusals 6 and 7 of an order and two lists.
 ghost use mathlib.Core.Path.{_≡_};
 ghost use mathlib.Core.Bool.{false};
-ghost use Prim.Native.Nat.{_+_};
-ghost use lib.ListN.{drop};
+ghost use Prim.Native.Nat.{_+_, _≤_};
+ghost use lib.ListN.{length};
+ghost use Rattle.encoding.specs.Limits.{maxRows};
 ghost use Rattle.encoding.specs.Refusals.{fault, some, tooLarge};
-ghost use Rattle.reduction.specs.Lists.{has as hasNumber};
 ghost use Rattle.terms.specs.Refused.{repeated as hasRepeat, listTests};
+ghost use Rattle.terms.specs.Work.{Blank};
+use encoding::MAX_ROWS;
 
 // Whether k is a + b or above; the sum itself need not fit.
 fn reaches(k: usize, a: usize, b: usize) -> bool
@@ -31,40 +33,41 @@ fn too_large(list: &[u16], a: usize, b: usize) -> bool
     false
 }
 
-// Whether k is in the list from place i on.
-fn has(list: &[u16], i: usize, k: u16) -> bool
-    ensures { λ r. ⌜ r ≡ hasNumber k (drop i (now (list .entry))) ⌝ }
-{
-    let mut j = i;
-    while j < list.len() {
-        if list[j] == k {
-            return true;
-        }
-        j += 1;
-    }
-    false
-}
+// The marks of a number: not seen yet, seen.
+const NONE: u8 = 0;
 
-// Whether a number of the list is there twice. All are below m, so more than m of them are not all different.
-fn repeated(list: &[u16], m: usize) -> bool
-    requires { ⌜ some (tooLarge m) (now list) ≡ false ⌝ }
+const SEEN: u8 = 1;
+
+// Whether a number of the list is there twice, in one pass: each is marked as it comes, and one that has its mark came before.
+fn repeated(list: &[u16], marks: &mut [u8]) -> bool
+    requires { ⌜ some (tooLarge (length (now marks))) (now list) ≡ false ⌝ }
+    requires { ⌜ Blank (now marks) ⌝ }
     ensures { λ r. ⌜ r ≡ hasRepeat (now (list .entry)) ⌝ }
 {
-    if m < list.len() {
-        return true;
-    }
     let mut i = 0;
     while i < list.len() {
-        if has(list, i + 1, list[i]) {
+        let k = list[i] as usize;
+        if marks[k] != NONE {
             return true;
         }
+        marks[k] = SEEN;
         i += 1;
     }
     false
 }
 
+// The same of row numbers.
+fn row_repeated(listed: &[u16]) -> bool
+    requires { ⌜ some (tooLarge maxRows) (now listed) ≡ false ⌝ }
+    ensures { λ r. ⌜ r ≡ hasRepeat (now (listed .entry)) ⌝ }
+{
+    let mut marks = [NONE; MAX_ROWS];
+    repeated(listed, &mut marks)
+}
+
 // The first number of the table that fits an order and two lists of m rows of n qubits, or 0.
-pub fn lists_fault(n: usize, m: usize, order: &[u16], listed: &[u16], extra: &[u16]) -> u8
+pub(crate) fn lists_fault(n: usize, m: usize, order: &[u16], listed: &[u16], extra: &[u16]) -> u8
+    requires { ⌜ m ≤ maxRows ⌝ }
     ensures { λ r. ⌜ r ≡ fault (listTests n m (now (order .entry)) (now (listed .entry)) (now (extra .entry))) ⌝ }
 {
     let a = too_large(order, n, n);
@@ -73,7 +76,7 @@ pub fn lists_fault(n: usize, m: usize, order: &[u16], listed: &[u16], extra: &[u
     if a | (b | c) {
         return 6;
     }
-    if repeated(listed, m) {
+    if row_repeated(listed) {
         return 7;
     }
     0

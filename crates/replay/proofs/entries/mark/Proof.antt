@@ -3,7 +3,8 @@ use Prim.Native.Nat.{_-_, _≤_}
 use native.Mathlib.Omega.{arith}
 use borrow.Author.Needs.{needs}
 use lib.ListN.{length, getD, length-set}
-use Rattle.replay.proofs.Marks.{Marking, marking-next, marking-end, small}
+use Rattle.terms.proofs.Scans.{small}
+use Rattle.replay.proofs.Marks.{Marking, marking-next, marking-end}
 use Rattle.replay.proofs.entries.mark.Statement.{statement}
 use Rattle.replay.proofs.entries.mark.Tie as tie
 

@@ -1,4 +1,5 @@
-use Rattle.terms.proofs.Scans.{large-is, no-large, fault-6, fault-7}
+use Rattle.encoding.specs.Limits.{maxRows}
+use Rattle.terms.proofs.Scans.{raised, large-is, no-large, fault-6, fault-7}
 use mathlib.Core.Bool.{true, false}
 use mathlib.Core.Path.{sym, _∙_}
 use borrow.Author.Needs.{needs}
@@ -10,20 +11,20 @@ returns c =
     let a = c .before .before .before .before .before .before .before .args in
     fault-6 (a .n) (a .m) (a .order .now) (a .listed .now) (a .extra .now) (sym (large-is (a .n) (a .m) (a .order .now) (a .listed .now) (a .extra .now) (c .before .before .before .too-large .ensures) (c .before .before .too-large2 .ensures) (c .before .too-large3 .ensures)) ∙ c .if1 .taken)
 
-repeated-requires : tie.Need-repeated-requires
-repeated-requires c κs =
+row-repeated-requires : tie.Need-row-repeated-requires
+row-repeated-requires c κs =
     let a = c .before .before .before .before .before .before .before .args in
-    no-large (a .n) (a .m) (a .order .now) (a .listed .now) (a .extra .now) (sym (large-is (a .n) (a .m) (a .order .now) (a .listed .now) (a .extra .now) (c .before .before .before .too-large .ensures) (c .before .before .too-large2 .ensures) (c .before .too-large3 .ensures)) ∙ c .if1 .left) .1
+    raised (a .listed .now) (a .m) maxRows (no-large (a .n) (a .m) (a .order .now) (a .listed .now) (a .extra .now) (sym (large-is (a .n) (a .m) (a .order .now) (a .listed .now) (a .extra .now) (c .before .before .before .too-large .ensures) (c .before .before .too-large2 .ensures) (c .before .too-large3 .ensures)) ∙ c .if1 .left) .1) (c .before .before .before .before .before .before .before .pre)
 
 returns-2 : tie.Need-returns-2
 returns-2 c =
     let a = c .before .before .before .before .before .before .before .before .before .args in
-    fault-7 (a .n) (a .m) (a .order .now) (a .listed .now) (a .extra .now) true (sym (large-is (a .n) (a .m) (a .order .now) (a .listed .now) (a .extra .now) (c .before .before .before .before .before .too-large .ensures) (c .before .before .before .before .too-large2 .ensures) (c .before .before .before .too-large3 .ensures)) ∙ c .before .before .if1 .left) (sym (c .before .repeated .ensures) ∙ c .if2 .taken)
+    fault-7 (a .n) (a .m) (a .order .now) (a .listed .now) (a .extra .now) true (sym (large-is (a .n) (a .m) (a .order .now) (a .listed .now) (a .extra .now) (c .before .before .before .before .before .too-large .ensures) (c .before .before .before .before .too-large2 .ensures) (c .before .before .before .too-large3 .ensures)) ∙ c .before .before .if1 .left) (sym (c .before .row-repeated .ensures) ∙ c .if2 .taken)
 
 returns-3 : tie.Need-returns-3
 returns-3 c =
     let a = c .before .before .before .before .before .before .before .before .before .args in
-    fault-7 (a .n) (a .m) (a .order .now) (a .listed .now) (a .extra .now) false (sym (large-is (a .n) (a .m) (a .order .now) (a .listed .now) (a .extra .now) (c .before .before .before .before .before .too-large .ensures) (c .before .before .before .before .too-large2 .ensures) (c .before .before .before .too-large3 .ensures)) ∙ c .before .before .if1 .left) (sym (c .before .repeated .ensures) ∙ c .if2 .left)
+    fault-7 (a .n) (a .m) (a .order .now) (a .listed .now) (a .extra .now) false (sym (large-is (a .n) (a .m) (a .order .now) (a .listed .now) (a .extra .now) (c .before .before .before .before .before .too-large .ensures) (c .before .before .before .before .too-large2 .ensures) (c .before .before .before .too-large3 .ensures)) ∙ c .before .before .if1 .left) (sym (c .before .row-repeated .ensures) ∙ c .if2 .left)
 
 pub lists-fault-spec : {M : Type 1} → statement M
 lists-fault-spec =
@@ -33,6 +34,6 @@ lists-fault-spec =
     (λ c κs. search needs)
     (λ c κs. search needs)
     returns
-    repeated-requires
+    row-repeated-requires
     returns-2
     returns-3)

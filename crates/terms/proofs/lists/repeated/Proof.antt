@@ -1,43 +1,56 @@
-use Rattle.reduction.specs.Lists.{distinct}
-use Rattle.terms.proofs.Scans.{too-many, repeat-here, repeat-next, repeat-end}
 use mathlib.Core.Bool.{not}
-use borrow.Author.Needs.{needs}
-use native.Mathlib.Omega.{arith}
 use mathlib.Core.Path.{_≡_, refl, sym, ap, _∙_}
 use Prim.Native.Nat.{_-_, _≤_}
-use lib.ListN.{length, drop}
+use native.Mathlib.Omega.{arith}
+use borrow.Author.Needs.{needs}
+use lib.ListN.{length, getD, length-set}
+use Rattle.terms.proofs.Scans.{Marking, marking-start, marked-here, marking-next, marking-end, small}
 use Rattle.terms.proofs.lists.repeated.Statement.{statement}
 use Rattle.terms.proofs.lists.repeated.Tie as tie
 
 abbrev Inv-loop : tie.InvT-loop
-Inv-loop list m i₀ i = (i ≤ length list) × (distinct (drop i list) ≡ distinct list)
+Inv-loop list marks₀ i₀ marks i = (i ≤ length list) × (length marks ≡ length marks₀) × Marking list i marks
 
 abbrev μ-loop : tie.MeasureT-loop
-μ-loop list m i₀ i = length list - i
-
-returns : tie.Need-returns Inv-loop μ-loop
-returns c = let s = c .before .before in too-many (s .args .m) (s .args .list .now) (s .pre) (omega arith)
+μ-loop list marks₀ i₀ marks i = length list - i
 
 loop-holds : tie.Need-loop-holds Inv-loop μ-loop
-loop-holds c = (search needs, refl)
+loop-holds c = (omega arith, refl, marking-start (c .args .list .now) (c .args .marks .now) (c .pre .1))
 
-returns-2 : tie.Need-returns-2 Inv-loop μ-loop
-returns-2 c =
+cast-k : tie.Need-cast-k Inv-loop μ-loop
+cast-k c = omega (arith, c .shared-slice-known .given (c .before .before .loop .i))
+
+slice-read-if1 : tie.Need-slice-read-if1 Inv-loop μ-loop
+slice-read-if1 c =
+    let s = c .before .before .before .before in
+    let l = c .before .before .before .loop in
+    omega (arith, l .inv .1, small (s .args .list .now) (length (s .args .marks .now)) (l .i) (s .pre .0) (omega arith))
+
+returns : tie.Need-returns Inv-loop μ-loop
+returns c =
+    let a = c .before .before .before .before .before .args in
     let l = c .before .before .before .before .loop in
-    let a = c .before .before .before .before .before .before .before .args in
-    sym (ap not (sym (l .inv .1) ∙ repeat-here (a .list .now) (l .i) (omega arith) (sym (c .before .has .ensures) ∙ c .if2 .taken)))
+    sym (ap not (marked-here (a .list .now) (l .i) (l .marks) (omega arith) (l .inv .2) (c .if1 .taken)))
+
+slice-write-marks : tie.Need-slice-write-marks Inv-loop μ-loop
+slice-write-marks c =
+    let s = c .before .before .before .before .before in
+    let l = c .before .before .before .before .loop in
+    omega (arith, l .inv .1, small (s .args .list .now) (length (s .args .marks .now)) (l .i) (s .pre .0) (omega arith))
 
 loop-again : tie.Need-loop-again Inv-loop μ-loop
 loop-again c =
+    let s = c .before .before .before .before .before in
+    let a = s .args in
     let l = c .before .before .before .before .loop in
-    let a = c .before .before .before .before .before .before .before .args in
-    (omega arith, repeat-next (a .list .now) (l .i) (omega arith) (sym (c .before .has .ensures) ∙ c .if2 .left) ∙ l .inv .1)
+    let h = small (a .list .now) (length (a .marks .now)) (l .i) (s .pre .0) (omega arith) in
+    (omega arith, length-set (l .marks) (getD (a .list .now) (l .i) 0) 1 ∙ l .inv .1, marking-next (a .list .now) (l .i) (l .marks) (omega arith) (l .inv .2) (omega (arith, l .inv .1, h)) (c .if1 .left))
 
-returns-3 : tie.Need-returns-3 Inv-loop μ-loop
-returns-3 c =
+returns-2 : tie.Need-returns-2 Inv-loop μ-loop
+returns-2 c =
+    let a = c .before .before .args in
     let l = c .before .loop in
-    let a = c .before .before .before .before .args in
-    sym (ap not (sym (l .inv .1) ∙ repeat-end (a .list .now) (l .i) (omega arith)))
+    sym (ap not (marking-end (a .list .now) (l .i) (l .marks) (omega arith) (l .inv .2)))
 
 pub repeated-spec : {M : Type 1} → statement M
 repeated-spec =
@@ -45,14 +58,16 @@ repeated-spec =
     (tie.spec
     Inv-loop
     μ-loop
-    returns
     loop-holds
     (λ c. search needs)
     (λ c. search needs)
+    cast-k
+    slice-read-if1
     (λ c. search needs)
-    (λ c κs. search needs)
-    returns-2
+    returns
+    slice-write-marks
     (λ c. search needs)
     (λ c. search needs)
     loop-again
-    returns-3)
+    (λ c. search needs)
+    returns-2)
