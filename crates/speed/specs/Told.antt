@@ -10,6 +10,10 @@ use Rattle.terms.specs.declared.Clashes.{Clashes}
 use Rattle.terms.specs.declared.Clashes.the-variants as clash
 use Rattle.terms.specs.declared.Canonicalized.{Canonicalized}
 use Rattle.terms.specs.declared.Canonicalized.the-variants as reduced
+use Rattle.encoding.specs.Set.{Mem}
+use Rattle.replay.specs.Check.{Task, Claim, Checked}
+use Rattle.replay.specs.declared.Verdict.{Verdict}
+use Rattle.replay.specs.declared.Verdict.the-variants as verdict
 use Rattle.mat_elem_float.specs.declared.Element.{Element}
 use Rattle.mat_elem_float.specs.declared.Element.the-variants as element
 
@@ -58,6 +62,38 @@ pub record Counted (entries t entries′ t′ r : ℕ) (a : Canonicalized) : Typ
   pub number : r ≡ reducedNumber a
   pub count : entries′ ≡ entriesOr entries a
   pub pivots : t′ ≡ pivotsOr t a
+
+-- ---- a check: 0 for yes, else the refusal's number or the verdict's, with the place of the bad entry or of the row; without one the place stays as it was
+
+abbrev pub differing : ℕ
+differing = 252
+
+abbrev pub badEntry : ℕ
+badEntry = 253
+
+abbrev pub notReduced : ℕ
+notReduced = 254
+
+abbrev pub verdictNumber : Verdict → ℕ
+verdictNumber (verdict.BadEntry k) = badEntry
+verdictNumber (verdict.Differs k) = differing
+verdictNumber verdict.NotReduced = notReduced
+verdictNumber verdict.Yes = 0
+verdictNumber (verdict.Refused k) = k
+
+abbrev pub placeOr : ℕ → Verdict → ℕ
+placeOr old (verdict.BadEntry k) = k
+placeOr old (verdict.Differs k) = k
+placeOr old verdict.NotReduced = old
+placeOr old verdict.Yes = old
+placeOr old (verdict.Refused k) = old
+
+pub record Placed (place place′ r : ℕ) (v : Verdict) : Type 0 where
+  pub number : r ≡ verdictNumber v
+  pub placed : place′ ≡ placeOr place v
+
+abbrev pub CheckedOn : Task → Claim → Mem → Verdict → Type 0
+CheckedOn T L left v = Checked T L v left
 
 -- ---- a matrix element: the two parts of the sum, or 255 for no block; without a sum the parts stay as they were
 

@@ -3,15 +3,23 @@ ghost use mathlib.Core.Path.{_≡_};
 ghost use Rattle.encoding.specs.Set.{mem};
 ghost use Rattle.cmpnt_list.specs.Calls.{CompatibilityMatrix, MulPairwise};
 ghost use Rattle.terms.specs.Calls.{Multiplies, ReducesAll, reducedNumber};
+ghost use Rattle.replay.specs.Check.{task, claim};
 ghost use Rattle.mat_elem_float.specs.Product.{MatElem};
-ghost use Rattle.speed.specs.Told.{Told, Number, numberOf, productNumber, clashesOr, Multiplied, Counted, entriesOr, pivotsOr, Parted, elementNumber, realOr, imagOr};
+ghost use Rattle.speed.specs.Told.{Told, Number, numberOf, productNumber, clashesOr, Multiplied, Counted, entriesOr, pivotsOr, verdictNumber, placeOr, Placed, CheckedOn, Parted, elementNumber, realOr, imagOr};
 use encoding::Answer;
 use mat_elem_float::Element;
 use pauli::RowNumber;
+use replay::Verdict;
 use terms::Canonicalized;
 use terms::Clashes;
 
-// What stands for no block beside the refusal numbers.
+// What stands for a verdict other than yes, and for no block, beside the refusal numbers.
+pub const DIFFERS: u8 = 252;
+
+pub const BAD_ENTRY: u8 = 253;
+
+pub const NOT_REDUCED: u8 = 254;
+
 pub const NO_BLOCK: u8 = 255;
 
 // 0 for done, else the refusal's number.
@@ -138,6 +146,57 @@ pub extern "C" fn speed_canonicalize_all(
     *entries = c.entries;
     *t = c.t;
     c.number
+}
+
+struct Place {
+    number: u8,
+    place: usize,
+}
+
+// What is seen of a verdict, with the place that stays where it names none.
+fn placed(v: Verdict, place: usize) -> Place
+    ensures { λ r. ⌜ (r .number ≡ verdictNumber v) × (r .place ≡ placeOr place v) ⌝ }
+{
+    match v {
+        Verdict::BadEntry(k) => Place {
+            number: BAD_ENTRY,
+            place: k,
+        },
+        Verdict::Differs(k) => Place {
+            number: DIFFERS,
+            place: k,
+        },
+        Verdict::NotReduced => Place {
+            number: NOT_REDUCED,
+            place,
+        },
+        Verdict::Yes => Place { number: 0, place },
+        Verdict::Refused(k) => Place { number: k, place },
+    }
+}
+
+#[no_mangle]
+pub extern "C" fn speed_check(
+    n: usize,
+    x: &mut [u64],
+    z: &mut [u64],
+    phases: &mut [u8],
+    order: &[u16],
+    listed: &[u16],
+    extra: &[u16],
+    log: &[u16],
+    cx: &[u64],
+    cz: &[u64],
+    cphases: &[u8],
+    place: &mut usize,
+) -> u8
+    ensures { λ r. ⌜ Told (CheckedOn (task n (mem (now (x .entry)) (now (z .entry)) (now (phases .entry))) (now (order .entry)) (now (listed .entry)) (now (extra .entry)))
+        (claim (now (log .entry)) (mem (now (cx .entry)) (now (cz .entry)) (now (cphases .entry)))) (mem (now (x .exit)) (now (z .exit)) (now (phases .exit)))) (Placed (now (place .entry)) (now (place .exit)) r) ⌝ }
+{
+    let v = replay::check(n, x, z, phases, order, listed, extra, log, cx, cz, cphases);
+    let s = placed(v, *place);
+    *place = s.place;
+    s.number
 }
 
 struct Parts {
