@@ -85,7 +85,7 @@ pub record SetQubit (n : ℕ) (M : Mem) (r q : ℕ) (p : Pauli) (M′ : Mem) (a 
 
 -- ---- compatibility_matrix: m rows of (m/64 rounded up) words, bit j of row i for rows i and j, spare bits zero
 
--- 2: m above 256; 3: the lent words are not as many as the matrix has
+-- 2: m above its limit; 3: the lent words are not as many as the matrix has
 abbrev pub matrixTests : ℕ → ℕ → List Bool
 matrixTests m size = false ∷ manyRows m ∷ not (eqb size (m * wordsOf m)) ∷ []
 

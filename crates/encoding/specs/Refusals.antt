@@ -54,7 +54,7 @@ isOn p = hasX p || hasZ p
 abbrev pub manyQubits : ℕ → Bool
 manyQubits n = ltb maxQubits n
 
--- 2: m above 256
+-- 2: m above its limit
 abbrev pub manyRows : ℕ → Bool
 manyRows m = ltb maxRows m
 

@@ -11,6 +11,8 @@ mod words;
 pub use elements::Terms;
 pub use elements::read_float;
 pub use elements::read_whole;
+use encoding::MAX_QUBITS;
+use encoding::MAX_ROWS;
 pub use lists::Check;
 pub use lists::Lists;
 pub use lists::Reduce;
@@ -32,13 +34,14 @@ pub use words::ThreeWords;
 pub use words::read_four_words;
 pub use words::read_three_words;
 
-// The most elements that a list of a line may have. Each reaches past what the library takes, so that a line can ask for
-// more and have it refused: 257 rows of 1,088 qubits have 4,369 words.
-pub const WORDS: usize = 4608;
+// The most elements that a list of a line may have. Rows, lists and terms reach past what the library takes, so that a line can
+// ask for more and have it refused. Words and logs do not: a set at both limits has 4 MiB, its log 64 MiB, and a program has the
+// stack that the system gives it. The words are enough for a word in each of more rows than the limit, or for 70 of the longest rows.
+pub const ROWS: usize = MAX_ROWS + 64;
 
-pub const ROWS: usize = 320;
+pub const WORDS: usize = MAX_ROWS + 512;
 
-pub const LIST: usize = 8192;
+pub const LIST: usize = 2 * MAX_QUBITS + 64;
 
 pub const LOG: usize = 140000;
 
