@@ -1,6 +1,7 @@
 //! What makes a call one to be refused. Each fault is one change to a call that has none, so that refusals can be
 //! asked for alone and in pairs.
 
+use crate::limits::{QUBITS, ROWS, WORDS_IN_REACH};
 use crate::line::{Case, Field};
 use crate::random::Random;
 use crate::reduction::{reduce, Lists};
@@ -152,11 +153,11 @@ fn shorter(list: &mut Vec<u64>) -> bool {
 
 // ---- 1
 
-/// 1,025 qubits with words to match.
+/// One qubit more than the limit, with words to match.
 fn more_qubits(case: &mut Case, _: &mut Random) -> bool {
     let w = words_for(n_of(case));
     let fits = |case: &Case, i: usize| case.words(i).len() == case.bytes(3).len() * w;
-    if n_of(case) > 1024 || !fits(case, 1) || !fits(case, 2) {
+    if n_of(case) > QUBITS || !fits(case, 1) || !fits(case, 2) {
         return false;
     }
     refit(case, 1, w);
@@ -164,13 +165,14 @@ fn more_qubits(case: &mut Case, _: &mut Random) -> bool {
         "pair" => {
             refit(case, 4, w);
             let m = case.bytes(3).len() as u64;
-            case.fields[7] = Field::Lengths([17 * m, 17 * m, m, m]);
+            let words = m * words_for(QUBITS + 1) as u64;
+            case.fields[7] = Field::Lengths([words, words, m, m]);
         }
         "check" => refit(case, 8, w),
-        "act" => words(case, 5).resize(17, 0),
+        "act" => words(case, 5).resize(words_for(QUBITS + 1), 0),
         _ => {}
     }
-    set_number(case, 0, 1025)
+    set_number(case, 0, QUBITS as u64 + 1)
 }
 
 fn refit(case: &mut Case, at: usize, w: usize) {
@@ -179,7 +181,7 @@ fn refit(case: &mut Case, at: usize, w: usize) {
         let old = words(case, i).clone();
         let row = |r: usize| {
             let mut row: Vec<u64> = old.iter().skip(r * w).take(w).copied().collect();
-            row.resize(17, 0);
+            row.resize(words_for(QUBITS + 1), 0);
             row
         };
         *words(case, i) = (0..rows).flat_map(row).collect();
@@ -187,7 +189,7 @@ fn refit(case: &mut Case, at: usize, w: usize) {
 }
 
 fn many_qubits(case: &mut Case, random: &mut Random) -> bool {
-    let n = random.pick(&[1025, 1026, 4096, 65535, 65536, 1 << 32, u64::MAX]);
+    let n = random.pick(&[QUBITS as u64 + 1, QUBITS as u64 + 2, 8192, 65535, 65536, 1 << 32, u64::MAX]);
     set_number(case, 0, n)
 }
 
@@ -201,36 +203,41 @@ fn qubits_65(case: &mut Case, _: &mut Random) -> bool {
 
 // ---- 2
 
-fn to_257_rows(case: &mut Case, at: usize) -> bool {
-    let w = words_for(n_of(case).min(1024));
-    bytes(case, at + 2).resize(257, 0);
-    words(case, at).resize(257 * w, 0);
-    words(case, at + 1).resize(257 * w, 0);
+/// One row more than the limit, with words to match where a line may have so many; 2 comes before 3.
+fn to_more_rows(case: &mut Case, at: usize) -> bool {
+    bytes(case, at + 2).resize(ROWS + 1, 0);
+    let size = words_of_more_rows(case);
+    words(case, at).resize(size, 0);
+    words(case, at + 1).resize(size, 0);
     true
+}
+
+fn words_of_more_rows(case: &Case) -> usize {
+    ((ROWS + 1) * words_for(n_of(case).min(QUBITS))).min(WORDS_IN_REACH)
 }
 
 fn more_rows(case: &mut Case, random: &mut Random) -> bool {
     if matches!(case.call, "pair" | "check") {
         let at = second(case);
-        to_257_rows(case, at);
+        to_more_rows(case, at);
     }
     if case.call == "pair" {
         third_more_rows(case, random);
     }
     if case.call == "matrix" {
-        set_number(case, 4, 257 * 5);
+        set_number(case, 4, WORDS_IN_REACH as u64);
     }
-    to_257_rows(case, 1)
+    to_more_rows(case, 1)
 }
 
 fn second_more_rows(case: &mut Case, _: &mut Random) -> bool {
     let at = second(case);
-    to_257_rows(case, at)
+    to_more_rows(case, at)
 }
 
 fn third_more_rows(case: &mut Case, _: &mut Random) -> bool {
-    let w = words_for(n_of(case).min(1024)) as u64;
-    case.fields[7] = Field::Lengths([257 * w, 257 * w, 257, 257]);
+    let size = words_of_more_rows(case) as u64;
+    case.fields[7] = Field::Lengths([size, size, ROWS as u64 + 1, ROWS as u64 + 1]);
     true
 }
 
@@ -263,8 +270,8 @@ fn second_z_shorter(case: &mut Case, _: &mut Random) -> bool {
 }
 
 fn second_one_row_more(case: &mut Case, _: &mut Random) -> bool {
-    let (at, w) = (second(case), words_for(n_of(case).min(1024)));
-    if bytes(case, at + 2).len() > 256 {
+    let (at, w) = (second(case), words_for(n_of(case).min(QUBITS)));
+    if bytes(case, at + 2).len() > ROWS {
         return false;
     }
     bytes(case, at + 2).push(0);
@@ -516,7 +523,7 @@ fn listed_twice(case: &mut Case, random: &mut Random) -> bool {
 fn log_short(case: &mut Case, _: &mut Random) -> bool {
     let n = n_of(case);
     let set = Set { x: case.words(1).to_vec(), z: case.words(2).to_vec(), p: case.bytes(3).to_vec() };
-    let fits = n <= 1024 && [&set.x, &set.z].iter().all(|part| part.len() == set.p.len() * words_for(n));
+    let fits = n <= QUBITS && [&set.x, &set.z].iter().all(|part| part.len() == set.p.len() * words_for(n));
     if !fits || set.p.iter().any(|p| *p > 3) {
         return false;
     }

@@ -1,6 +1,7 @@
 //! The fixed list: some thousands of lines with their answers, the Rust's where it has one and the model's elsewhere.
 
 use crate::compare::{agrees_with_rust, asked, rust_answers};
+use crate::limits::{QUBITS, ROWS, WORDS_IN_REACH};
 use crate::line::{is_case, Case, Field, CALLS};
 use crate::model;
 use crate::random::Random;
@@ -117,36 +118,40 @@ fn with_numbers(call: &str, n: usize, set: &Set, numbers: &[usize]) -> String {
 }
 
 fn limits(out: &mut Vec<String>) {
-    out.push("# 1,024 qubits and 1,025; qubit n; bit n set; 256 rows and 257".to_string());
-    for n in [1023, 1024, 1025] {
+    out.push("# 4,096 qubits and 4,097; qubit n; bit n set; 4,096 rows and 4,097".to_string());
+    for n in [QUBITS - 1, QUBITS, QUBITS + 1] {
         let set = ladder(n, 1);
         out.push(with_numbers("count", n, &set, &[0]));
-        for q in [0, 1, 63, 64, 1022, 1023, 1024, 1025] {
+        for q in [0, 1, 63, 64, QUBITS - 2, QUBITS - 1, QUBITS, QUBITS + 1] {
             out.push(with_numbers("get", n, &set, &[0, q]));
         }
     }
-    let mut high = ladder(1023, 1);
-    high.x[15] |= 1 << 63;
-    out.push(with_numbers("count", 1023, &high, &[0]));
-    for m in [255, 256, 257] {
+    let mut high = ladder(QUBITS - 1, 1);
+    *high.x.last_mut().expect("a word") |= 1 << 63;
+    out.push(with_numbers("count", QUBITS - 1, &high, &[0]));
+    for m in [512, ROWS - 1, ROWS, ROWS + 1] {
         let set = ladder(1, m);
         for call in ["count", "central"] {
             out.push(with_numbers(call, 1, &set, &[m - 1]));
         }
         out.push(with_numbers("imul", 1, &set, &[m - 1, 0]));
-        out.push(with_numbers("matrix", 1, &set, &[m * m.div_ceil(64)]));
+        out.push(with_numbers("matrix", 1, &set, &[(m * m.div_ceil(64)).min(WORDS_IN_REACH)]));
         out.push(with_numbers("reduceall", 1, &set, &[2 * m]));
     }
-    let largest = ladder(1024, 256);
-    out.push(with_numbers("central", 1024, &largest, &[255]));
-    out.push(with_numbers("reduceall", 1024, &largest, &[2000]));
+    // the longest rows of which a line has many, and the most rows, of as many qubits as a line has
+    let widest = ladder(QUBITS, 64);
+    out.push(with_numbers("central", QUBITS, &widest, &[63]));
+    out.push(with_numbers("reduceall", QUBITS, &widest, &[2000]));
+    let longest = ladder(64, ROWS);
+    out.push(with_numbers("central", 64, &longest, &[ROWS - 1]));
+    out.push(with_numbers("reduceall", 64, &longest, &[2000]));
 }
 
 /// Every call over rows at the edges of words.
 fn edges(out: &mut Vec<String>) {
-    out.push("# every call at n = 0, 1, 63, 64, 65, 1,024 and 1,025".to_string());
+    out.push("# every call at n = 0, 1, 63, 64, 65, 4,096 and 4,097".to_string());
     let mut random = Random::of(1, 0);
-    for n in [0, 1, 63, 64, 65, 1024, 1025] {
+    for n in [0, 1, 63, 64, 65, QUBITS, QUBITS + 1] {
         let rows = valid::rows(&mut random, n, 3);
         for (call, kinds) in CALLS.iter().filter(|call| call.1.starts_with("nWWB")) {
             let few = kinds.contains('S') && n > 100;
@@ -412,7 +417,7 @@ fn refusals(out: &mut Vec<String>) {
         };
         let mut long = 0;
         singles_and_pairs(&base, &mut random, &mut |line| {
-            // A few of those with 257 rows are enough.
+            // A few of those with more rows or qubits than the limit are enough.
             long += (line.len() > 500) as usize;
             if line.len() <= 500 || long % 8 == 1 {
                 out.push(line);
@@ -450,28 +455,29 @@ fn random(out: &mut Vec<String>) {
 /// mutation of compare/mutations.txt.
 fn last_ones(out: &mut Vec<String>) {
     out.push(
-        "# decided by qubit 1,023, by row 255, by row number 256 in a log, by a coefficient without a block"
+        "# decided by the last qubit, the last row, row number 4,096 in a log, a coefficient without a block"
             .to_string(),
     );
-    let row = |letter: Pauli| Row { paulis: [vec![Pauli::I; 1023], vec![letter]].concat(), phase: 0 };
-    let set = |letters: &[Pauli]| packed(1024, &letters.iter().map(|letter| row(*letter)).collect::<Vec<_>>());
+    let row = |letter: Pauli| Row { paulis: [vec![Pauli::I; QUBITS - 1], vec![letter]].concat(), phase: 0 };
+    let set = |letters: &[Pauli]| packed(QUBITS, &letters.iter().map(|letter| row(*letter)).collect::<Vec<_>>());
     for call in ["comm", "phase"] {
-        out.push(with_numbers(call, 1024, &set(&[Pauli::X, Pauli::Z]), &[0, 1]));
+        out.push(with_numbers(call, QUBITS, &set(&[Pauli::X, Pauli::Z]), &[0, 1]));
     }
-    out.push(with_numbers("reduceall", 1024, &set(&[Pauli::Z, Pauli::Z]), &[4]));
+    out.push(with_numbers("reduceall", QUBITS, &set(&[Pauli::Z, Pauli::Z]), &[4]));
     for letter in [Pauli::X, Pauli::Z] {
         let claim = set(&[letter]);
         let claim = vec![Field::Words(claim.x), Field::Words(claim.z), Field::Bytes(claim.p)];
         let more = [vec![Field::Shorts(vec![]); 4], claim].concat();
-        out.push(valid::call_on("check", 1024, &set(&[Pauli::I]), more).line());
+        out.push(valid::call_on("check", QUBITS, &set(&[Pauli::I]), more).line());
     }
-    let mut rows = vec![Row { paulis: vec![Pauli::X], phase: 0 }; 256];
-    rows[255].paulis[0] = Pauli::Z;
-    out.push(with_numbers("central", 1, &packed(1, &rows), &[0]));
-    out.push(with_numbers("matrix", 1, &packed(1, &rows), &[1024]));
+    for (call, m, number) in [("central", ROWS, 0), ("matrix", 512, 4096)] {
+        let mut rows = vec![Row { paulis: vec![Pauli::X], phase: 0 }; m];
+        rows[m - 1].paulis[0] = Pauli::Z;
+        out.push(with_numbers(call, 1, &packed(1, &rows), &[number]));
+    }
     for at in [0, 1] {
         let mut log = LOG;
-        log[at] = 256;
+        log[at] = ROWS as u16;
         out.push(check_of(&log, CLAIM));
     }
     out.push("elemf 1 0,0 0,0 7ff8000000000000,0 0,0 0 1".to_string());

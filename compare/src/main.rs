@@ -9,6 +9,7 @@ mod cases;
 mod compare;
 mod faults;
 mod fixed;
+mod limits;
 mod line;
 mod malformed;
 mod model;

@@ -1,5 +1,6 @@
 //! Lines that are not of the form, or barely are: one change to the text of a sound line.
 
+use crate::limits::WORDS_IN_REACH;
 use crate::line::{parsed, Case, Field};
 use crate::random::Random;
 use crate::valid;
@@ -19,10 +20,10 @@ pub fn line(random: &mut Random) -> String {
 
 /// A change may leave a line sound but ask for a log or an output of more units than any program lends.
 fn within_reach(case: &Case) -> bool {
-    let most = if case.call == "matrix" { 4400 } else { 65535 };
+    let most = if case.call == "matrix" { WORDS_IN_REACH as u64 } else { 65535 };
     case.fields.iter().skip(1).all(|field| match field {
         Field::Number(v) => *v <= most,
-        Field::Lengths(v) => v.iter().all(|v| *v <= 4400),
+        Field::Lengths(v) => v.iter().all(|v| *v <= WORDS_IN_REACH as u64),
         _ => true,
     })
 }
@@ -69,7 +70,7 @@ fn other_field(random: &mut Random, line: &str) -> String {
         "0x1",
         "10000000000000000",
         "ffffffffffffffff",
-        "256",
+        "4096",
         "65536",
         "18446744073709551616",
         "100000000000000000000",

@@ -1,6 +1,7 @@
 //! Document 01 in plain words: every line gets its answer, refusals included. Written from the document and its
 //! readings alone.
 
+use crate::limits::{QUBITS, ROWS};
 use crate::line::{hexes, joined, parsed, Case, Field};
 use crate::reduction::{first_bad, is_reduced, reduce, replay, Lists};
 use crate::rows::*;
@@ -50,8 +51,8 @@ fn refusal_of_sets(case: &Case) -> Option<u8> {
     let sets = sets_of(case);
     let size = n as usize;
     first_fitting(vec![
-        (1, Box::new(move || n > 1024)),
-        (2, Box::new(|| sets.iter().any(|set| set.p.len() > 256) || third_is_too_large(case))),
+        (1, Box::new(move || n > QUBITS as u64)),
+        (2, Box::new(|| sets.iter().any(|set| set.p.len() > ROWS) || third_is_too_large(case))),
         (3, Box::new(|| !lengths_fit(case, size, &sets))),
         (4, Box::new(|| sets.iter().any(|set| spare_bit(size, set)) || spare_bit_in_state(case))),
         (5, Box::new(|| sets.iter().any(|set| set.p.iter().any(|p| *p > 3)))),
@@ -62,7 +63,7 @@ fn refusal_of_sets(case: &Case) -> Option<u8> {
 }
 
 fn third_is_too_large(case: &Case) -> bool {
-    matches!(case.fields.last(), Some(Field::Lengths([_, _, p, _])) if *p > 256)
+    matches!(case.fields.last(), Some(Field::Lengths([_, _, p, _])) if *p > ROWS as u64)
 }
 
 fn lengths_fit(case: &Case, n: usize, sets: &[Set]) -> bool {

@@ -1,6 +1,7 @@
 //! Cases that are not random: all small ones, and every fault of every call alone and with every other.
 
 use crate::faults;
+use crate::limits::QUBITS;
 use crate::line::{Case, Field, CALLS};
 use crate::random::Random;
 use crate::rows::Set;
@@ -184,7 +185,7 @@ fn bases(call: &str, random: &mut Random) -> Vec<Case> {
     if matches!(call, "elemf" | "elemi") {
         return [(1, 2), (3, 5), (63, 6), (64, 4)].map(|(n, count)| of_terms(random, call, n, count)).to_vec();
     }
-    let sizes = [(1, 1), (3, 2), (64, 2), (65, 3), (130, 2), (1023, 2), (5, 0), (0, 2)];
+    let sizes = [(1, 1), (3, 2), (64, 2), (65, 3), (130, 2), (QUBITS - 1, 2), (5, 0), (0, 2)];
     sizes
         .map(|(n, m)| {
             let rows = rows(random, n, m);

@@ -1,5 +1,6 @@
 //! Random calls that document 01 does not refuse, or refuses only because a set has no row or no qubit to name.
 
+use crate::limits::{QUBITS, ROWS, UNITS_IN_REACH, WORDS_IN_REACH};
 use crate::line::{Case, Field, CALLS};
 use crate::random::Random;
 use crate::reduction::{reduce, replay, Lists};
@@ -12,9 +13,11 @@ pub fn sizes(random: &mut Random) -> (usize, usize) {
         850..=949 => (random.pick(&[62, 63, 64, 65, 66, 127, 128, 129, 191, 192]), random.within(0, 8)),
         950..=969 => (random.within(9, 200), random.within(0, 12)),
         970..=984 => (random.within(0, 5), random.pick(&[63, 64, 65, 127, 128, 129, 255, 256])),
-        985..=997 => (random.pick(&[1022, 1023, 1024]), random.within(0, 4)),
+        985..=992 => (random.pick(&[QUBITS - 2, QUBITS - 1, QUBITS]), random.within(0, 3)),
+        993..=996 => (random.within(0, 4), random.pick(&[ROWS - 1, ROWS])),
+        997 => (random.pick(&[63, 64]), random.pick(&[ROWS - 1, ROWS])),
         998 => (random.pick(&[64, 65, 129]), random.pick(&[64, 65, 255, 256])),
-        _ => (random.pick(&[1023, 1024]), random.pick(&[64, 65, 255, 256])),
+        _ => (random.pick(&[1023, 1024, QUBITS - 1, QUBITS]), random.pick(&[64, 65])),
     }
 }
 
@@ -117,7 +120,8 @@ pub fn over_rows(random: &mut Random, call: &str, n: usize, rows: Vec<Row>) -> C
         "count" | "central" => vec![some(random, m)],
         "phase" | "comm" | "imul" => vec![some(random, m), some(random, m)],
         "act" => vec![some(random, m), Field::Words(state(random, n))],
-        "matrix" => vec![Field::Number((m * words_for(m)) as u64)],
+        // a matrix of many rows has more words than a line may ask for: refused as too short
+        "matrix" => vec![Field::Number((m * words_for(m)).min(WORDS_IN_REACH) as u64)],
         "pair" => second_set(random, n, m),
         "reduceall" => {
             let (order, listed): (Vec<u16>, Vec<u16>) = ((0..2 * n as u16).collect(), (0..m as u16).collect());
@@ -161,7 +165,7 @@ fn lists(random: &mut Random, n: usize, m: usize) -> OwnLists {
     let order = match random.below(5) {
         0 | 1 => random.permutation(2 * n),
         2 => random.subset(2 * n),
-        3 => random.repeats(2 * n, 3 * n + 2),
+        3 => random.repeats(2 * n, (3 * n + 2).min(2 * QUBITS)),
         _ => (0..2 * n as u16).collect(),
     };
     let listed = match random.below(4) {
@@ -190,7 +194,7 @@ fn units(random: &mut Random, rows: &[Row], lists: Lists) -> u64 {
         5 => 2 * needed + random.below(40),
         _ => 2 * needed,
     };
-    around as u64
+    around.min(UNITS_IN_REACH) as u64
 }
 
 fn reduction(random: &mut Random, n: usize, rows: &[Row]) -> Vec<Field> {
@@ -204,7 +208,7 @@ fn check(random: &mut Random, n: usize, start: &[Row]) -> Vec<Field> {
     let mut lists = lists(random, n, start.len());
     let mut claim = start.to_vec();
     let done = reduce(&mut claim, lists.lent(), usize::MAX);
-    let mut log: Vec<u16> = done.log.iter().flat_map(|(a, b)| [*a, *b]).collect();
+    let mut log: Vec<u16> = done.log.iter().flat_map(|(a, b)| [*a, *b]).take(UNITS_IN_REACH - 2).collect();
     damage(random, n, start, &mut lists, &mut log, &mut claim);
     let claimed = packed(n, &claim);
     let claimed = vec![Field::Words(claimed.x), Field::Words(claimed.z), Field::Bytes(claimed.p)];
