@@ -1,14 +1,17 @@
 //! Prints a table of times: the calls of this repository, from the archive of the crate `speed`, and the Rust's, on the
 //! same random rows, in one process. Before a call is timed both sides do it once, and what they leave is compared.
+//! With `--limits`: both limits at once, with the stack that each call takes and the refusals one past the limits.
 
 #[path = "../../oracle/src/fields.rs"]
 #[allow(dead_code)]
 mod fields;
+mod limits;
 mod ours;
 #[path = "../../compare/src/random.rs"]
 #[allow(dead_code)]
 mod random;
 mod rows;
+mod stack;
 mod table;
 
 use std::hint::black_box;
@@ -29,8 +32,15 @@ const QUBITS: usize = 1024;
 const TERMS: usize = 65_536;
 
 fn main() {
+    match std::env::args().nth(1).as_deref() {
+        Some("--limits") => limits::run(),
+        _ => times(),
+    }
+}
+
+fn times() {
     let mut random = Random::of(1, 0);
-    table::header();
+    table::header(table::RUNS);
     for m in [64, 256] {
         matrix(&Set::random(&mut random, QUBITS, m));
     }

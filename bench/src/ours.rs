@@ -67,6 +67,31 @@ extern "C" {
         t: *mut usize,
     ) -> u8;
 
+    fn speed_check(
+        n: usize,
+        x: *mut u64,
+        x_len: usize,
+        z: *mut u64,
+        z_len: usize,
+        phases: *mut u8,
+        phases_len: usize,
+        order: *const u16,
+        order_len: usize,
+        listed: *const u16,
+        listed_len: usize,
+        extra: *const u16,
+        extra_len: usize,
+        log: *const u16,
+        log_len: usize,
+        cx: *const u64,
+        cx_len: usize,
+        cz: *const u64,
+        cz_len: usize,
+        cphases: *const u8,
+        cphases_len: usize,
+        place: *mut usize,
+    ) -> u8;
+
     fn speed_mat_elem_cmpnts_from_presorted(
         n: usize,
         x: *const u64,
@@ -165,6 +190,53 @@ pub fn canonicalize_all(set: &mut Set, log: &mut [u16]) -> (u8, usize, usize) {
         )
     };
     (code, entries, t)
+}
+
+/// What stands for a verdict other than yes, beside the refusal numbers.
+pub const DIFFERS: u8 = 252;
+pub const BAD_ENTRY: u8 = 253;
+pub const NOT_REDUCED: u8 = 254;
+
+/// A log and the rows that it is to lead to, with the lists of the reduction.
+#[derive(Clone, Copy)]
+pub struct Claim<'a> {
+    pub order: &'a [u16],
+    pub listed: &'a [u16],
+    pub extra: &'a [u16],
+    pub log: &'a [u16],
+    pub rows: &'a Set,
+}
+
+/// The number, 0 for yes, and the place that the verdict names, else 0.
+pub fn check(set: &mut Set, claim: &Claim) -> (u8, usize) {
+    let mut place = 0;
+    let code = unsafe {
+        speed_check(
+            set.n,
+            set.x.as_mut_ptr(),
+            set.x.len(),
+            set.z.as_mut_ptr(),
+            set.z.len(),
+            set.phases.as_mut_ptr(),
+            set.phases.len(),
+            claim.order.as_ptr(),
+            claim.order.len(),
+            claim.listed.as_ptr(),
+            claim.listed.len(),
+            claim.extra.as_ptr(),
+            claim.extra.len(),
+            claim.log.as_ptr(),
+            claim.log.len(),
+            claim.rows.x.as_ptr(),
+            claim.rows.x.len(),
+            claim.rows.z.as_ptr(),
+            claim.rows.z.len(),
+            claim.rows.phases.as_ptr(),
+            claim.rows.phases.len(),
+            &mut place,
+        )
+    };
+    (code, place)
 }
 
 /// The number, and the real and imaginary part of the sum.

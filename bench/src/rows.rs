@@ -11,7 +11,7 @@ use crate::fields::rows;
 use crate::random::Random;
 
 /// A row set as it lies in memory.
-#[derive(Clone)]
+#[derive(Clone, PartialEq)]
 pub struct Set {
     pub n: usize,
     pub x: Vec<u64>,

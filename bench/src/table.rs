@@ -40,21 +40,29 @@ impl<R: FnMut() -> Duration> Side<R> {
     }
 }
 
-pub fn header() {
-    println!("median of {RUNS} runs of each side, turn about, in the thread's own processor time");
+pub fn header(runs: usize) {
+    println!("median of {runs} runs of each side, turn about, in the thread's own processor time");
     println!();
     println!("| call | size | ours | the Rust | ours / the Rust |");
     println!("|---|---|---:|---:|---:|");
 }
 
 /// Times both sides, turn about, and prints their line.
-pub fn line<A, B>(name: &str, size: &str, mut ours: Side<A>, mut rust: Side<B>)
+pub fn line<A, B>(name: &str, size: &str, ours: Side<A>, rust: Side<B>)
+where
+    A: FnMut() -> Duration,
+    B: FnMut() -> Duration,
+{
+    line_of(RUNS, name, size, ours, rust)
+}
+
+pub fn line_of<A, B>(runs: usize, name: &str, size: &str, mut ours: Side<A>, mut rust: Side<B>)
 where
     A: FnMut() -> Duration,
     B: FnMut() -> Duration,
 {
     // the first turn fills the caches and is not counted
-    let turns = (0..=RUNS).map(|_| ((ours.1)(), (rust.1)())).skip(1);
+    let turns = (0..=runs).map(|_| ((ours.1)(), (rust.1)())).skip(1);
     let (our_runs, rust_runs): (Vec<_>, Vec<_>) = turns.unzip();
     let (our_time, rust_time) = (ours.median(our_runs), rust.median(rust_runs));
     let ratio = our_time / rust_time;
