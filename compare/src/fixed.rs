@@ -419,7 +419,7 @@ fn refusals(out: &mut Vec<String>) {
         singles_and_pairs(&base, &mut random, &mut |line| {
             // A few of those with more rows or qubits than the limit are enough.
             long += (line.len() > 500) as usize;
-            if line.len() <= 500 || long % 8 == 1 {
+            if line.len() <= 500 || long % 16 == 1 {
                 out.push(line);
             }
         });
