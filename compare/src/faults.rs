@@ -157,7 +157,7 @@ fn shorter(list: &mut Vec<u64>) -> bool {
 fn more_qubits(case: &mut Case, _: &mut Random) -> bool {
     let w = words_for(n_of(case));
     let fits = |case: &Case, i: usize| case.words(i).len() == case.bytes(3).len() * w;
-    if n_of(case) > QUBITS || !fits(case, 1) || !fits(case, 2) {
+    if n_of(case) > QUBITS || !fits(case, 1) || !fits(case, 2) || !few_rows(case) {
         return false;
     }
     refit(case, 1, w);
@@ -173,6 +173,13 @@ fn more_qubits(case: &mut Case, _: &mut Random) -> bool {
         _ => {}
     }
     set_number(case, 0, QUBITS as u64 + 1)
+}
+
+/// Whether a line may have a row of so many qubits for each row.
+fn few_rows(case: &Case) -> bool {
+    let most = WORDS_IN_REACH / words_for(QUBITS + 1);
+    let second = matches!(case.call, "pair" | "check").then(|| second(case) + 2);
+    [Some(3), second].into_iter().flatten().all(|at| case.bytes(at).len() <= most)
 }
 
 fn refit(case: &mut Case, at: usize, w: usize) {
