@@ -4,14 +4,13 @@
 use std::hint::black_box;
 
 use oracle::container::coeffs::complex_sign::ComplexSign;
-use oracle::container::word_iters::WordIters;
 use oracle::qubit::pauli::cmpnt_major::terms::{AsViewMut, Terms};
 
 use crate::fields;
 use crate::ours::{self, Claim, BAD_ENTRY, DIFFERS, NOT_REDUCED};
 use crate::random::Random;
 use crate::rows::Set;
-use crate::stack::taken;
+use crate::stack::{taken, LEAST};
 use crate::table::{self, line_of, time, Side};
 use crate::{agree, size, text};
 
@@ -209,9 +208,11 @@ fn same(name: &str, yes: bool) {
 // ---- the stack
 
 fn stacks(left: &Set, right: &Set) {
-    println!("stack that a call at both limits takes, its callers' frames not counted");
+    println!(
+        "stack that a call at both limits takes, its callers' frames not counted; {LEAST} bytes stand for less, too"
+    );
     println!();
-    let told = |name: &str, bytes: usize| println!("| {name} | {bytes} bytes |");
+    let told = |name: &str, bytes: usize| println!("| {name} | {} bytes |", bytes.max(LEAST));
     println!("| call | stack |");
     println!("|---|---:|");
     let mut out = vec![0; ROWS * ROWS.div_ceil(64)];

@@ -7,6 +7,9 @@ const STACK: usize = 1 << 20;
 const PAINTED: usize = STACK / 2;
 const PATTERN: u8 = 0xa5;
 
+/// Bytes that are left for the frames of the measuring itself: less is not told apart.
+pub const LEAST: usize = 512;
+
 /// The bytes below the caller's frame that the call changes, on a thread of its own.
 pub fn taken(call: impl FnOnce() + Send) -> usize {
     thread::scope(|scope| {
@@ -20,12 +23,12 @@ fn measured(call: impl FnOnce()) -> usize {
     let mark = 0u8;
     let top = std::hint::black_box(&mark) as *const u8 as usize;
     let lowest = top - PAINTED;
-    paint(lowest, top - 512);
+    paint(lowest, top - LEAST);
     call();
     top - changed(lowest)
 }
 
-// Both leave their own frames alone: these lie in the 512 bytes below the mark, which are not painted.
+// Both leave their own frames alone: these lie in the bytes below the mark that are not painted.
 #[inline(never)]
 fn paint(from: usize, to: usize) {
     (from..to).for_each(|at| unsafe { std::ptr::write_volatile(at as *mut u8, PATTERN) });
