@@ -80,7 +80,7 @@ fn own(call: &str) -> &'static [(u8, Fault)] {
             (3, third_p_shorter),
             (3, numbers_longer),
             (3, numbers_shorter),
-            (3, numbers_257),
+            (3, numbers_above_rows),
         ],
         "reduce" => {
             &[(6, column_too_large), (6, listed_too_large), (6, extra_too_large), (7, listed_twice), (8, log_short)]
@@ -372,11 +372,11 @@ fn numbers_shorter(case: &mut Case, _: &mut Random) -> bool {
 }
 
 /// More numbers than rows are allowed: the lent numbers are no rows, so it is 3 as well.
-fn numbers_257(case: &mut Case, _: &mut Random) -> bool {
+fn numbers_above_rows(case: &mut Case, _: &mut Random) -> bool {
     let Field::Lengths(lengths) = &mut case.fields[7] else { unreachable!("the lengths of pair") };
     let old = lengths[3];
-    lengths[3] = 257;
-    old != 257
+    lengths[3] = ROWS as u64 + 1;
+    old != lengths[3]
 }
 
 // ---- 4

@@ -5,7 +5,7 @@ use crate::limits::{QUBITS, ROWS, WORDS_IN_REACH};
 use crate::line::{is_case, Case, Field, CALLS};
 use crate::model;
 use crate::random::Random;
-use crate::rows::{packed, Pauli, Row, Set};
+use crate::rows::{packed, words_for, Pauli, Row, Set};
 use crate::small::{over_sets, plain_terms, singles_and_pairs};
 use crate::{malformed, valid};
 
@@ -496,22 +496,22 @@ fn clashes(out: &mut Vec<String>) {
             "pair 1 1 0 0 0 1 0 1,1,1,1",
             "pair 1 1 0 0 0 1 0 1,1,1,0",
             "pair 1 1 0 0 0 1 0 1,1,1,2",
-            "pair 1 1 0 0 0 1 0 1,1,1,257",
+            "pair 1 1 0 0 0 1 0 1,1,1,4097",
             "pair 0 - - - - - - 0,0,0,0",
             "pair 0 - - - - - - 0,0,0,1",
             "pair 1 1 0 0 0 1 0 1,1,1",
             "pair 1 1 0 0 0 1 0 1,1,1,1,1",
         ],
     );
-    let all = |letter: Pauli| Row { paulis: vec![letter; 1024], phase: 0 };
-    let rows = packed(1024, &[all(Pauli::X), all(Pauli::Z), all(Pauli::Y)]);
+    let all = |letter: Pauli| Row { paulis: vec![letter; QUBITS], phase: 0 };
+    let rows = packed(QUBITS, &[all(Pauli::X), all(Pauli::Z), all(Pauli::Y)]);
     for (a, b) in [(0, 1), (1, 2), (2, 0), (2, 2)] {
-        out.push(with_numbers("imul", 1024, &rows, &[a, b]));
+        out.push(with_numbers("imul", QUBITS, &rows, &[a, b]));
     }
-    let right = packed(1024, &[all(Pauli::Y), all(Pauli::Z), all(Pauli::I)]);
-    let lengths = Field::Lengths([48, 48, 3, 3]);
+    let right = packed(QUBITS, &[all(Pauli::Y), all(Pauli::Z), all(Pauli::I)]);
+    let lengths = Field::Lengths([3 * words_for(QUBITS) as u64, 3 * words_for(QUBITS) as u64, 3, 3]);
     let more = vec![Field::Words(right.x), Field::Words(right.z), Field::Bytes(right.p), lengths];
-    out.push(valid::call_on("pair", 1024, &rows, more).line());
+    out.push(valid::call_on("pair", QUBITS, &rows, more).line());
 }
 
 /// The example of docs/ENERGIES.md, sums of whole numbers at and past the bound, and the order of terms.
