@@ -475,6 +475,11 @@ fn last_ones(out: &mut Vec<String>) {
         rows[m - 1].paulis[0] = Pauli::Z;
         out.push(with_numbers(call, 1, &packed(1, &rows), &[number]));
     }
+    // the last row listed once, and twice
+    for listed in [vec![0, ROWS as u16 - 1], vec![ROWS as u16 - 1, 0, ROWS as u16 - 1]] {
+        let more = vec![Field::Shorts(vec![0, 1]), Field::Shorts(listed), Field::Shorts(vec![]), Field::Number(8)];
+        out.push(valid::call_on("reduce", 1, &ladder(1, ROWS), more).line());
+    }
     for at in [0, 1] {
         let mut log = LOG;
         log[at] = ROWS as u16;
