@@ -56,26 +56,6 @@ fromMasks X n k = k
 fromMasks Y n k = k
 fromMasks Z n k = k
 
--- ---- the matrix: the pairs before (i, j) are done, both ways round, in rows of m bits
-
-abbrev pub Seen : ℕ → ℕ → ℕ → ℕ → Type 0
-Seen i j r c = ((r < i) × (c < i)) ⊎ (((r ≡ i) × (c < j)) ⊎ ((c ≡ i) × (r < j)))
-
-pub record Filled (bits : ℕ → ℕ → Bool) (m i j : ℕ) (out : List ℕ) : Type 0 where
-  pub long : length out ≡ m * wordsOf m
-  pub done : (r a k : ℕ) → r < m → a < wordsOf m → k < 64 → Seen i j r (a * 64 + k) → bitAt out (r * wordsOf m + a) k ≡ bits r (a * 64 + k)
-  pub rest : (r a k : ℕ) → r < m → a < wordsOf m → k < 64 → (Seen i j r (a * 64 + k) → ⊥) → bitAt out (r * wordsOf m + a) k ≡ false
-
--- bit j of row i is set, and nothing else has changed
-pub record Marked (m i j : ℕ) (old new : List ℕ) : Type 0 where
-  pub long : length new ≡ length old
-  pub here : (r a k : ℕ) → a < wordsOf m → k < 64 → r ≡ i → a * 64 + k ≡ j → bitAt new (r * wordsOf m + a) k ≡ true
-  pub other : (r a k : ℕ) → a < wordsOf m → k < 64 → (r ≡ i → a * 64 + k ≡ j → ⊥) → bitAt new (r * wordsOf m + a) k ≡ bitAt old (r * wordsOf m + a) k
-
-pub record Zeros (old new : List ℕ) : Type 0 where
-  pub long : length new ≡ length old
-  pub zero-at : (t : ℕ) → getD new t 0 ≡ 0
-
 -- ---- a row on a basis state: the state's words, and the exponent
 
 pub record StateActed (n : ℕ) (r : Row) (st st′ : List ℕ) (e : ℕ) : Type 0 where

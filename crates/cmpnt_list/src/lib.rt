@@ -11,7 +11,7 @@ ghost use Rattle.encoding.specs.Set.{mem, rowsOf, lay, Sound};
 ghost use Rattle.encoding.specs.Refusals.{fault, joined, setTests, outTests, stateTests};
 ghost use Rattle.products.specs.Leaves.{SameLength, ProductAt};
 ghost use Rattle.cmpnt_list.specs.Calls.{readFault, matrixTests, matrixFault, laidMatrix, commuting, otherLengths, pairs, pairNumbers, getQubit, SetQubit, countIn, phaseOfMul, commutesWith, belongsToCentralizer, CompatibilityMatrix, MulPairwise, ImulState};
-ghost use Rattle.cmpnt_list.specs.Workers.{Asked, AskedMatrix, BothReady, ThirdReady, RowAt, masked, fromMasks, Filled, Marked, Zeros, StateActed};
+ghost use Rattle.cmpnt_list.specs.Workers.{Asked, AskedMatrix, BothReady, ThirdReady, RowAt, masked, fromMasks, StateActed};
 use encoding::Answer;
 use pauli::ComplexSign;
 use pauli::PauliMatrix;
@@ -361,69 +361,14 @@ fn matrix_fault(n: usize, x: &[u64], z: &[u64], phases: &[u8], size: usize) -> u
     )
 }
 
-// Every word becomes 0.
-fn clear(out: &mut [u64])
-    ensures { λ _. ⌜ Zeros (now (out .entry)) (now (out .exit)) ⌝ }
-{
-    let m = out.len();
-    let mut i = 0;
-    while i < m {
-        out[i] = 0;
-        i += 1;
-    }
-}
-
-// Bit j of row i of an m by m matrix is set.
-fn mark(m: usize, i: usize, j: usize, out: &mut [u64])
-    requires { ⌜ (i < m) × (j < m) × (m ≤ maxRows) × (length (now out) ≡ m * wordsOf m) ⌝ }
-    ensures { λ _. ⌜ Marked m i j (now (out .entry)) (now (out .exit)) ⌝ }
-{
-    let s = row_span(i, m, m);
-    let t = s.0 + j / 64;
-    out[t] = out[t] | (1u64 << (j % 64));
-}
-
-// The pair of rows i and j is looked at, and both bits are written.
-fn mark_pair(n: usize, x: &[u64], z: &[u64], phases: &[u8], i: usize, j: usize, out: &mut [u64])
-    requires { ⌜ Sound n (mem (now x) (now z) (now phases)) ⌝ }
-    requires { ⌜ (i < length (now phases)) × (j ≤ i) ⌝ }
-    requires { ⌜ Filled (commuting n (mem (now x) (now z) (now phases))) (length (now phases)) i j (now out) ⌝ }
-    ensures { λ _. ⌜ Filled (commuting n (mem (now (x .entry)) (now (z .entry)) (now (phases .entry)))) (length (now (phases .entry))) i (j + 1) (now (out .exit)) ⌝ }
-{
-    let m = phases.len();
-    if commute_rows(n, x, z, phases, i, j) {
-        mark(m, i, j, out);
-        mark(m, j, i, out);
-    }
-}
-
-// Row i is paired with the rows up to it.
-fn mark_line(n: usize, x: &[u64], z: &[u64], phases: &[u8], i: usize, out: &mut [u64])
-    requires { ⌜ Sound n (mem (now x) (now z) (now phases)) ⌝ }
-    requires { ⌜ i < length (now phases) ⌝ }
-    requires { ⌜ Filled (commuting n (mem (now x) (now z) (now phases))) (length (now phases)) i 0 (now out) ⌝ }
-    ensures { λ _. ⌜ Filled (commuting n (mem (now (x .entry)) (now (z .entry)) (now (phases .entry)))) (length (now (phases .entry))) (i + 1) 0 (now (out .exit)) ⌝ }
-{
-    let mut j = 0;
-    while j <= i {
-        mark_pair(n, x, z, phases, i, j, out);
-        j += 1;
-    }
-}
-
 // The matrix of a set's rows.
 fn fill_matrix(n: usize, x: &[u64], z: &[u64], phases: &[u8], out: &mut [u64])
     requires { ⌜ Sound n (mem (now x) (now z) (now phases)) ⌝ }
     requires { ⌜ length (now out) ≡ length (now phases) * wordsOf (length (now phases)) ⌝ }
     ensures { λ _. ⌜ now (out .exit) ≡ laidMatrix (length (now (phases .entry))) (commuting n (mem (now (x .entry)) (now (z .entry)) (now (phases .entry)))) ⌝ }
 {
-    clear(out);
-    let m = phases.len();
-    let mut i = 0;
-    while i < m {
-        mark_line(n, x, z, phases, i, out);
-        i += 1;
-    }
+    let w = encoding::words(n);
+    matrix::fill(x, z, w, phases.len(), out);
 }
 
 // Bit j of row i is set exactly when rows i and j commute.
