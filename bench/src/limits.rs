@@ -11,7 +11,7 @@ use crate::ours::{self, Claim, BAD_ENTRY, DIFFERS, NOT_REDUCED};
 use crate::random::Random;
 use crate::rows::Set;
 use crate::stack::{taken, LEAST};
-use crate::table::{self, line_of, time, Side};
+use crate::table::{self, line, side, time};
 use crate::{agree, size, text};
 
 const QUBITS: usize = 4096;
@@ -21,7 +21,7 @@ const RUNS: usize = 3;
 
 pub fn run() {
     let mut random = Random::of(6, 0);
-    table::header(RUNS);
+    table::header(&format!("{RUNS} runs of each side"));
     reduction(&Set::random(&mut random, QUBITS / 4, ROWS));
     let (left, right) = (Set::random(&mut random, QUBITS, ROWS), Set::random(&mut random, QUBITS, ROWS));
     let last = last_ones();
@@ -54,12 +54,13 @@ fn matrix(set: &Set) {
     assert_eq!(ours::compatibility_matrix(set, &mut out), 0);
     let matrix = rust.compatibility_matrix();
     (0..m).for_each(|i| same(name, out[i * m.div_ceil(64)..(i + 1) * m.div_ceil(64)] == *matrix[i].to_vec()));
-    line_of(
-        RUNS,
+    line(
         name,
         &size(set),
-        Side(1, || time(|| assert_eq!(ours::compatibility_matrix(black_box(set), &mut out), 0))),
-        Side(1, || time(|| drop(black_box(black_box(&rust).compatibility_matrix())))),
+        RUNS,
+        side(1, || time(|| assert_eq!(ours::compatibility_matrix(black_box(set), &mut out), 0))),
+        side(1, || time(|| drop(black_box(black_box(&rust).compatibility_matrix())))),
+        vec![],
     );
 }
 
@@ -71,12 +72,13 @@ fn pairwise(left: &Set, right: &Set) {
     let (rows, phases) = rust_left.cmpnts_mul_pairwise(&rust_right).unwrap();
     agree(name, text(&out), format!("{} {}", fields::rows_text(&rows), fields::phases_text(&phases)));
     same("the clashes", clashes == clashing(left, right));
-    line_of(
-        RUNS,
+    line(
         name,
         &size(left),
-        Side(1, || time(|| assert_eq!(ours::cmpnts_mul_pairwise(left, right, &mut out, &mut clashes), 0))),
-        Side(1, || time(|| drop(black_box(rust_left.cmpnts_mul_pairwise(black_box(&rust_right)).unwrap())))),
+        RUNS,
+        side(1, || time(|| assert_eq!(ours::cmpnts_mul_pairwise(left, right, &mut out, &mut clashes), 0))),
+        side(1, || time(|| drop(black_box(rust_left.cmpnts_mul_pairwise(black_box(&rust_right)).unwrap())))),
+        vec![],
     );
 }
 
@@ -97,12 +99,13 @@ fn in_place(set: &Set) {
     sweep(&mut ours);
     rust_sweep(&mut rust);
     agree(name, text(&ours), fields::set_text(&rust));
-    line_of(
-        RUNS,
+    line(
         name,
         &size(set),
-        Side(m, || time(|| sweep(black_box(&mut ours)))),
-        Side(m, || time(|| rust_sweep(black_box(&mut rust)))),
+        RUNS,
+        side(m, || time(|| sweep(black_box(&mut ours)))),
+        side(m, || time(|| rust_sweep(black_box(&mut rust)))),
+        vec![],
     );
 }
 
@@ -120,20 +123,21 @@ fn reduction(set: &Set) {
     agree(name, text(&done), fields::set_text(&rust));
     println!("# {}: {entries} entries, {t} pivots", size(set));
     let start = set.terms();
-    line_of(
-        RUNS,
+    line(
         name,
         &size(set),
-        Side(1, || {
+        RUNS,
+        side(1, || {
             let (mut rows, mut out) = (set.clone(), vec![!0; 2 * entries]);
             let time = time(|| assert_eq!(ours::canonicalize_all(black_box(&mut rows), &mut out), (0, entries, t)));
             same(name, out == log && rows == done);
             time
         }),
-        Side(1, || {
+        side(1, || {
             let mut rows = start.clone();
             time(|| drop(black_box(black_box(&mut rows).canonicalize_all())))
         }),
+        vec![],
     );
     one_short(set, &log);
     checked(set, &done, &log);
@@ -156,20 +160,21 @@ fn checked(set: &Set, done: &Set, log: &[u16]) {
     let (order, listed) = whole(set);
     let claim = Claim { order: &order, listed: &listed, extra: &[], log, rows: done };
     let start = set.terms();
-    line_of(
-        RUNS,
+    line(
         "check; the Rust: a replay",
         &size(set),
-        Side(1, || {
+        RUNS,
+        side(1, || {
             let mut rows = set.clone();
             let time = time(|| assert_eq!(ours::check(black_box(&mut rows), &claim), (0, 0)));
             same("the working rows", rows == *done);
             time
         }),
-        Side(1, || {
+        side(1, || {
             let mut rows = start.clone();
             time(|| log.chunks(2).for_each(|pair| black_box(&mut rows).imul(pair[0] as usize, pair[1] as usize)))
         }),
+        vec![],
     );
     verdicts(set, done, &claim);
 }

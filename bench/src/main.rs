@@ -1,11 +1,17 @@
 //! Prints a table of times: the calls of this repository, from the archive of the crate `speed`, and the Rust's, on the
-//! same random rows, in one process. Before a call is timed both sides do it once, and what they leave is compared.
-//! With `--limits`: both limits at once, with the stack that each call takes and the refusals one past the limits.
+//! same random rows, in one process, and for the matrix and the pairwise product the limits in C. Before a call is timed
+//! all sides do it once, and what they leave is compared. With --matrix-edges nothing is timed: the matrix is compared at
+//! the row counts that are the edges of its blocks. With --limits: both limits at once, with the stack that each call takes
+//! and the refusals one past the limits.
 
+mod c_limits;
 #[path = "../../oracle/src/fields.rs"]
 #[allow(dead_code)]
 mod fields;
 mod limits;
+#[path = "../../compare/src/rows.rs"]
+#[allow(dead_code)]
+mod model;
 mod ours;
 #[path = "../../compare/src/random.rs"]
 #[allow(dead_code)]
@@ -26,25 +32,37 @@ use oracle::qubit::state::cmpnt_list::CmpntList as StateList;
 
 use random::Random;
 use rows::{Operator, Set};
-use table::{line, time, Side};
+use table::{line, side, time, FEW_RUNS, RUNS};
 
 const QUBITS: usize = 1024;
 const TERMS: usize = 65_536;
 
+/// Row counts at which a block of 64 rows or of columns is full, one short or one over, up to the limit.
+const EDGES: [usize; 11] = [1, 63, 64, 65, 127, 128, 129, 255, 256, 4095, 4096];
+
 fn main() {
     match std::env::args().nth(1).as_deref() {
         Some("--limits") => limits::run(),
+        Some("--matrix-edges") => edges(),
         _ => times(),
     }
 }
 
+fn edges() {
+    let mut random = Random::of(1, 0);
+    EDGES.iter().for_each(|m| edge(&mut random, *m));
+}
+
 fn times() {
     let mut random = Random::of(1, 0);
-    table::header(table::RUNS);
-    for m in [64, 256] {
+    if let Some(why) = c_limits::NONE {
+        println!("{why}");
+    }
+    table::header(&format!("{RUNS} runs of each side ({FEW_RUNS} for the matrix of 4,096 rows)"));
+    for m in [64, 256, 4096] {
         matrix(&Set::random(&mut random, QUBITS, m));
     }
-    for m in [64, 256] {
+    for m in [64, 256, 4096] {
         pairwise(&Set::random(&mut random, QUBITS, m), &Set::random(&mut random, QUBITS, m));
     }
     for m in [64, 256] {
@@ -54,6 +72,37 @@ fn times() {
     for block in [TERMS, 16] {
         element(&mut random, block);
     }
+}
+
+/// The matrix of m rows of 65 qubits by ours, by the Rust, by the model qubit by qubit, and by C.
+fn edge(random: &mut Random, m: usize) {
+    const N: usize = 65;
+    let mut set = Set::random(random, 128, m);
+    set.n = N;
+    for words in [&mut set.x, &mut set.z] {
+        words.iter_mut().skip(1).step_by(2).for_each(|word| *word &= 1);
+    }
+    let w = m.div_ceil(64);
+    let mut out = vec![!0; m * w];
+    assert_eq!(ours::compatibility_matrix(&set, &mut out), 0);
+    let name = format!("the matrix of {m} rows");
+    let ours = fields::hex(out.iter().copied());
+    let rust = set.terms().word_iters.compatibility_matrix();
+    agree(&name, ours.clone(), fields::hex((0..m).flat_map(|i| rust[i].to_vec())));
+    let rows = model::unpacked(N, &model::Set { x: set.x.clone(), z: set.z.clone(), p: set.phases.clone() });
+    let mut plain = vec![0; m * w];
+    for (i, a) in rows.iter().enumerate() {
+        for (j, b) in rows.iter().enumerate() {
+            plain[i * w + j / 64] |= (model::commute(&a.paulis, &b.paulis) as u64) << (j % 64);
+        }
+    }
+    agree(&name, ours.clone(), fields::hex(plain.into_iter()));
+    for (limit, work) in c_limits::MATRIX {
+        let mut out = vec![!0; m * w];
+        work(&set, &mut out);
+        agree(&format!("{name}, {limit}"), ours.clone(), fields::hex(out.into_iter()));
+    }
+    println!("{name}: ours, the Rust, the model and {} in C agree", c_limits::MATRIX.len());
 }
 
 /// The rows and phases of a set and of the Rust's, as text.
@@ -72,6 +121,15 @@ fn size(set: &Set) -> String {
     format!("{} rows of {} qubits", set.phases.len(), set.n)
 }
 
+/// How often a side is timed at m rows.
+fn runs(m: usize) -> usize {
+    if m > 256 {
+        FEW_RUNS
+    } else {
+        RUNS
+    }
+}
+
 fn matrix(set: &Set) {
     let name = "compatibility_matrix";
     let m = set.phases.len();
@@ -80,14 +138,23 @@ fn matrix(set: &Set) {
     assert_eq!(ours::compatibility_matrix(set, &mut out), 0);
     let matrix = rust.compatibility_matrix();
     agree(name, fields::hex(out.iter().copied()), fields::hex((0..m).flat_map(|i| matrix[i].to_vec())));
-    let calls = 65_536 / (m * m);
+    let calls = (65_536 / (m * m)).max(1);
+    let limit = |(name, work): (&'static str, c_limits::Matrix)| {
+        let mut other = vec![!0; out.len()];
+        work(set, &mut other);
+        agree(name, fields::hex(other.iter().copied()), fields::hex(out.iter().copied()));
+        (name, side(calls, move || time(|| (0..calls).for_each(|_| work(black_box(set), black_box(&mut other))))))
+    };
+    let others = c_limits::MATRIX.into_iter().map(limit).collect();
     line(
         name,
         &size(set),
-        Side(calls, || {
+        runs(m),
+        side(calls, || {
             time(|| (0..calls).for_each(|_| assert_eq!(ours::compatibility_matrix(black_box(set), &mut out), 0)))
         }),
-        Side(calls, || time(|| (0..calls).for_each(|_| drop(black_box(black_box(&rust).compatibility_matrix()))))),
+        side(calls, || time(|| (0..calls).for_each(|_| drop(black_box(black_box(&rust).compatibility_matrix()))))),
+        others,
     );
 }
 
@@ -95,31 +162,45 @@ fn pairwise(left: &Set, right: &Set) {
     let name = "cmpnts_mul_pairwise";
     let m = left.phases.len();
     let (rust_left, rust_right) = (left.terms().word_iters, right.terms().word_iters);
-    let mut out = Set { n: left.n, x: vec![!0; left.x.len()], z: vec![!0; left.z.len()], phases: vec![!0; m] };
+    let blank = || Set { n: left.n, x: vec![!0; left.x.len()], z: vec![!0; left.z.len()], phases: vec![!0; m] };
+    let mut out = blank();
     let mut clashes = vec![!0u16; m];
     assert_eq!(ours::cmpnts_mul_pairwise(left, right, &mut out, &mut clashes), 0);
     let (rows, phases) = rust_left.cmpnts_mul_pairwise(&rust_right).unwrap();
     agree(name, text(&out), format!("{} {}", fields::rows_text(&rows), fields::phases_text(&phases)));
     let numbers = (0..m).map(|i| fields::clashes(left.n, &rust_left, i, &rust_right, i));
     agree(name, fields::joined(clashes.iter()), fields::joined(numbers));
-    let calls = 25_600 / m;
+    let calls = 25_600_usize.div_ceil(m);
+    let limit = |(name, work): (&'static str, c_limits::Pairwise)| {
+        let mut other = blank();
+        work(left, right, &mut other);
+        // it has no phases
+        other.phases = out.phases.clone();
+        agree(name, text(&other), text(&out));
+        let run =
+            move || time(|| (0..calls).for_each(|_| work(black_box(left), black_box(right), black_box(&mut other))));
+        (name, side(calls, run))
+    };
+    let others = c_limits::PAIRWISE.into_iter().map(limit).collect();
     line(
         name,
         &size(left),
-        Side(calls, || {
+        RUNS,
+        side(calls, || {
             time(|| {
                 for _ in 0..calls {
                     assert_eq!(ours::cmpnts_mul_pairwise(black_box(left), black_box(right), &mut out, &mut clashes), 0);
                 }
             })
         }),
-        Side(calls, || {
+        side(calls, || {
             time(|| {
                 for _ in 0..calls {
                     drop(black_box(black_box(&rust_left).cmpnts_mul_pairwise(black_box(&rust_right)).unwrap()));
                 }
             })
         }),
+        others,
     );
 }
 
@@ -137,8 +218,10 @@ fn in_place(set: &Set) {
     line(
         name,
         &size(set),
-        Side(sweeps * m, || time(|| (0..sweeps).for_each(|_| sweep(black_box(&mut ours))))),
-        Side(sweeps * m, || time(|| (0..sweeps).for_each(|_| rust_sweep(black_box(&mut rust))))),
+        RUNS,
+        side(sweeps * m, || time(|| (0..sweeps).for_each(|_| sweep(black_box(&mut ours))))),
+        side(sweeps * m, || time(|| (0..sweeps).for_each(|_| rust_sweep(black_box(&mut rust))))),
+        vec![],
     );
 }
 
@@ -158,14 +241,16 @@ fn reduction(set: &Set) {
     line(
         name,
         &size(set),
-        Side(1, || {
+        RUNS,
+        side(1, || {
             let mut rows = set.clone();
             time(|| assert_eq!(ours::canonicalize_all(black_box(&mut rows), &mut log).0, 0))
         }),
-        Side(1, || {
+        side(1, || {
             let mut rows = start.clone();
             time(|| drop(black_box(black_box(&mut rows).canonicalize_all())))
         }),
+        vec![],
     );
 }
 
@@ -199,7 +284,9 @@ fn element(random: &mut Random, block: usize) {
     line(
         name,
         &format!("{} terms, {block} in the block", terms.len()),
-        Side(calls, || time(|| (0..calls).for_each(|_| assert_eq!(ours::mat_elem(black_box(&op), bra, ket).0, 0)))),
-        Side(rust_calls, || time(|| (0..rust_calls).for_each(|_| _ = black_box(rust())))),
+        RUNS,
+        side(calls, || time(|| (0..calls).for_each(|_| assert_eq!(ours::mat_elem(black_box(&op), bra, ket).0, 0)))),
+        side(rust_calls, || time(|| (0..rust_calls).for_each(|_| _ = black_box(rust())))),
+        vec![],
     );
 }

@@ -5,6 +5,9 @@ use std::time::Duration;
 /// How often each side is timed; the table has the median.
 pub const RUNS: usize = 51;
 
+/// The same where one run of the Rust takes seconds.
+pub const FEW_RUNS: usize = 5;
+
 #[repr(C)]
 struct Timespec {
     seconds: i64,
@@ -30,9 +33,9 @@ pub fn time(work: impl FnOnce()) -> Duration {
 }
 
 /// One side: how many calls a run is, and a run.
-pub struct Side<R: FnMut() -> Duration>(pub usize, pub R);
+pub struct Side<'a>(pub usize, pub Box<dyn FnMut() -> Duration + 'a>);
 
-impl<R: FnMut() -> Duration> Side<R> {
+impl Side<'_> {
     /// Seconds of one call, the median over the runs.
     fn median(&self, mut runs: Vec<Duration>) -> f64 {
         runs.sort_unstable();
@@ -40,34 +43,49 @@ impl<R: FnMut() -> Duration> Side<R> {
     }
 }
 
-pub fn header(runs: usize) {
-    println!("median of {runs} runs of each side, turn about, in the thread's own processor time");
+/// A side of so many calls a run.
+pub fn side<'a>(calls: usize, run: impl FnMut() -> Duration + 'a) -> Side<'a> {
+    Side(calls, Box::new(run))
+}
+
+pub fn header(runs: &str) {
+    println!("median of {runs}, turn about, in the thread's own processor time");
     println!();
     println!("| call | size | ours | the Rust | ours / the Rust |");
     println!("|---|---|---:|---:|---:|");
 }
 
-/// Times both sides, turn about, and prints their line.
-pub fn line<A, B>(name: &str, size: &str, ours: Side<A>, rust: Side<B>)
-where
-    A: FnMut() -> Duration,
-    B: FnMut() -> Duration,
-{
-    line_of(RUNS, name, size, ours, rust)
+/// Times all sides, turn about, and prints a line for ours and for each that is named, against the Rust's.
+pub fn line(name: &str, size: &str, runs: usize, ours: Side, rust: Side, others: Vec<(&str, Side)>) {
+    let mut names = vec![name];
+    let mut sides = vec![rust, ours];
+    for (name, side) in others {
+        names.push(name);
+        sides.push(side);
+    }
+    let mut times = vec![vec![]; sides.len()];
+    // the first turn fills the caches and is not counted
+    for turn in 0..=runs {
+        for (side, times) in sides.iter_mut().zip(&mut times) {
+            let time = (side.1)();
+            if turn > 0 {
+                times.push(time);
+            }
+        }
+    }
+    let medians = sides.iter().zip(times).map(|(side, times)| side.median(times)).collect::<Vec<_>>();
+    let rust_time = medians[0];
+    for (name, time) in names.iter().zip(&medians[1..]) {
+        println!("| {name} | {size} | {} | {} | {} |", short(*time), short(rust_time), shown(time / rust_time));
+    }
 }
 
-pub fn line_of<A, B>(runs: usize, name: &str, size: &str, mut ours: Side<A>, mut rust: Side<B>)
-where
-    A: FnMut() -> Duration,
-    B: FnMut() -> Duration,
-{
-    // the first turn fills the caches and is not counted
-    let turns = (0..=runs).map(|_| ((ours.1)(), (rust.1)())).skip(1);
-    let (our_runs, rust_runs): (Vec<_>, Vec<_>) = turns.unzip();
-    let (our_time, rust_time) = (ours.median(our_runs), rust.median(rust_runs));
-    let ratio = our_time / rust_time;
-    let ratio = if ratio < 10.0 { format!("{ratio:.2}") } else { format!("{ratio:.0}") };
-    println!("| {name} | {size} | {} | {} | {ratio} |", short(our_time), short(rust_time));
+fn shown(ratio: f64) -> String {
+    match ratio {
+        r if r < 0.1 => format!("{r:.4}"),
+        r if r < 10.0 => format!("{r:.2}"),
+        r => format!("{r:.0}"),
+    }
 }
 
 fn short(seconds: f64) -> String {
