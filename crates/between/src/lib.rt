@@ -1,0 +1,1 @@
+// Theorems between calls of different crates, from their contracts alone. The crate has no code.
