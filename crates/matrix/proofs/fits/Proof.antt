@@ -1,4 +1,5 @@
 -- `matrix::fits` meets its contract. Assumes nothing.
+-- Within the limits no product of two sizes leaves 64 bits; past them the answer is no before anything is multiplied.
 use borrow.Author.Needs.{needs}
 use native.Mathlib.Omega.{arith}
 use mathlib.Core.Path.{_≡_, sym, ap, ap₂, _∙_}

@@ -1,4 +1,5 @@
 -- `matrix::pairs` meets its contract. Assumes nothing.
+-- The loop keeps `Summed k`: k words of every row are summed, and the lent places keep their lengths.
 use borrow.Author.Needs.{needs}
 use native.Mathlib.Omega.{arith}
 use mathlib.Core.Path.{_≡_, refl, _∙_, subst}

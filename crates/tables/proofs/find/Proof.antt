@@ -1,4 +1,5 @@
 -- `tables::find` meets its contract. Assumes nothing.
+-- The loop keeps `Looking g`: what is looked up and the parity of what is left of v make the whole parity.
 use Prim.Native.Nat.{_-_}
 use borrow.Author.Needs.{needs}
 use Rattle.tables.proofs.Looking.{Looking, looking-none, looking-more, looking-all}

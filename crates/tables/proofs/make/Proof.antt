@@ -1,4 +1,5 @@
 -- `tables::make` meets its contract. Assumes nothing.
+-- The loop keeps `Begun (8 g)`: g tables stand whole, and the next begins where they end.
 use borrow.Author.Needs.{needs}
 use native.Mathlib.Omega.{arith}
 use mathlib.Core.Path.{_≡_}

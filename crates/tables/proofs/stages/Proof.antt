@@ -1,4 +1,5 @@
 -- `tables::stages` meets its contract. Assumes nothing.
+-- The loop keeps `Turning i`: each bit came from the place that i rounds lead back to; after three it is turned.
 use mathlib.Core.Path.{_≡_}
 use Prim.Native.Nat.{_-_}
 use borrow.Author.Needs.{needs}
