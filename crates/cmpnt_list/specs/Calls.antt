@@ -8,8 +8,8 @@ use lib.Dec.{eqb}
 use lib.ListN.{length, getD}
 use Rattle.pauli.specs.Pauli.{Pauli}
 use Rattle.pauli.specs.declared.PauliMatrix.the-variants.{I}
-use Rattle.pauli.specs.Row.{Row}
-use Rattle.pauli.specs.Rows.{phaseOf, clashesOf, commute, central, countOf, pairRow, withQubit, actOn, actPhaseOn}
+use Rattle.pauli.specs.Row.{Row, mulRow}
+use Rattle.pauli.specs.Rows.{phaseOf, clashesOf, commute, central, countOf, withQubit, actOn, actPhaseOn}
 use Rattle.encoding.specs.Limits.{wordsOf}
 use Rattle.encoding.specs.Words.{layRows}
 use Rattle.encoding.specs.Set.{Mem, count, rowsOf, list, lay, stateOf, layState}
@@ -104,7 +104,7 @@ pub record CompatibilityMatrix (n : ℕ) (M : Mem) (out out′ : List ℕ) (a : 
   pub answer : a ≡ doneOr (matrixFault n M (length out))
   pub matrix : out′ ≡ leftOr (matrixFault n M (length out)) out (laidMatrix (count M) (commuting n M))
 
--- ---- cmpnts_mul_pairwise: row i of the third set is left i times right i, its phase byte phase(left i, right i), and number i that of the clashes
+-- ---- cmpnts_mul_pairwise: row i of the third set is left i times right i, by the product that rows of one set have, and number i that of the clashes
 
 -- 3: the right set has k rows, or the lent numbers are q, not m
 abbrev pub otherLengths : ℕ → ℕ → ℕ → List Bool
@@ -114,7 +114,7 @@ abbrev pub pairwiseFault : ℕ → Mem → Mem → Mem → ℕ → ℕ
 pairwiseFault n L R O q = fault (joined (joined (setTests n L) (setTests n R)) (joined (otherLengths (count L) (count R) q) (outTests n (count L) O)))
 
 abbrev pub pairs : ℕ → Mem → Mem → ℕ → Row
-pairs n L R k = pairRow n (rowsOf n L k) (rowsOf n R k)
+pairs n L R k = mulRow n (rowsOf n L k) (rowsOf n R k)
 
 abbrev pub pairNumbers : ℕ → Mem → Mem → List ℕ
 pairNumbers n L R = list (count L) (λ k. clashesOf n (rowsOf n L k) (rowsOf n R k))

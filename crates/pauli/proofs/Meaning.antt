@@ -11,7 +11,7 @@ use lib.ListN.{length, take, replicate, length-replicate}
 use Rattle.pauli.specs.Gauss.{Gauss, _⊕_, _⊗_, minus, g0, ipow}
 use Rattle.pauli.specs.Pauli.{Pauli, I, X, Y, Z, _·_, phase, mul, phases, turn, act, actPhase, clashes}
 use Rattle.pauli.specs.Row.{Row, padMul, expo, mulRow, bitRow}
-use Rattle.pauli.specs.Rows.{phaseOf, clashesOf, commute, central, holding, countOf, pairRow, actOn, actPhaseOn}
+use Rattle.pauli.specs.Rows.{phaseOf, clashesOf, commute, central, holding, countOf, actOn, actPhaseOn}
 use Rattle.pauli.specs.Matrix.{entry, matrix, times, scaled, Same, Commute, Anticommute, onQubits, matrixOf, rowMatrix, basis, apply}
 use Rattle.pauli.proofs.Bools.{xor-same}
 use Rattle.pauli.proofs.Every.{every-at, every-all}
@@ -78,10 +78,10 @@ pub square-phase : (n : ℕ) (a : Row) → mulRow n a a .p ≡ (2 * a .p) % 4
 unfolding mulRow
 square-phase n a = omega (arith, phases-self (take n (a .ps)))
 
--- the pairwise product takes the matrices without the rows' own phases
-pub pairwise-product : (n : ℕ) (a b : Row) → Same n (times n (matrixOf n a) (matrixOf n b)) (rowMatrix n (pairRow n a b))
-unfolding mulRow pairRow
-pairwise-product n a b = matrix-product n a b
+-- the bare rule, phase(a, b) with no phase of the rows', gives a product's phase exactly where the rows' own add up to 0 mod 4
+pub bare-exactly : (n : ℕ) (a b : Row) → (mulRow n a b .p ≡ phaseOf n a b) ↔ ((a .p + b .p) % 4 ≡ 0)
+unfolding mulRow
+bare-exactly n a b = (λ e. omega arith, λ e. omega arith)
 
 low : (x y : ℕ) → (x % 4 + y % 4) % 4 ≡ (x + y) % 4
 low x y = omega arith

@@ -1,12 +1,12 @@
--- RULES 4, "Products and actions", over the rows of a set: a set is the row at each number. Phase, commutation, central rows, counts, pairwise
--- products, one qubit set, and the action on a basis state. n is the number of qubits, m the number of rows. Assumes nothing.
+-- RULES 4, "Products and actions", over the rows of a set: a set is the row at each number. Phase, commutation, central rows, counts, one qubit
+-- set, and the action on a basis state. n is the number of qubits, m the number of rows. Assumes nothing.
 use mathlib.Core.Bool.{Bool, true, false, cond, _&&_}
 use mathlib.Core.List.{List, [], _∷_}
 use Prim.Native.Nat.{ℕ, zero, suc, _+_, _-_, _%_}
 use lib.Dec.{eqb}
 use lib.ListN.{getD, take, set}
 use Rattle.pauli.specs.Pauli.{Pauli, I, X, Y, Z, phases, act, actPhase, clashes}
-use Rattle.pauli.specs.Row.{Row, padMul, expo, eqP}
+use Rattle.pauli.specs.Row.{Row, expo, eqP}
 
 -- the exponent of the product of two rows, mod 4, without the rows' own
 abbrev pub phaseOf : ℕ → Row → Row → ℕ
@@ -40,10 +40,6 @@ countOf n I r = n - (holding X (take n (r .ps)) + holding Y (take n (r .ps)) + h
 countOf n X r = holding X (take n (r .ps))
 countOf n Y r = holding Y (take n (r .ps))
 countOf n Z r = holding Z (take n (r .ps))
-
--- pairwise: row i is left i times right i, and its exponent is phase(left i, right i)
-unfoldable pub pairRow : ℕ → Row → Row → Row
-pairRow n a b = record { ps = padMul (a .ps) (b .ps); p = phaseOf n a b }
 
 -- the set with Pauli p at qubit q of row r: no exponent changes
 unfoldable pub withQubit : (ℕ → Row) → ℕ → ℕ → Pauli → ℕ → Row
