@@ -18,6 +18,13 @@ pub struct Factor {
     pub clashes: u16,
 }
 
+// The sum of three exponents of i, mod 4.
+pub fn add_signs(a: u8, b: u8, e: u8) -> u8
+    ensures { λ r. ⌜ r ≡ (a + b + e) % 4 ⌝ }
+{
+    ((a as u16 + b as u16 + e as u16) % 4) as u8
+}
+
 // How many bits of x are set.
 pub fn count(x: u64) -> u64
     ensures { λ r. ⌜ (r ≡ ones x) × (r ≤ 64) ⌝ }

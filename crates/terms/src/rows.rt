@@ -53,13 +53,6 @@ pub fn find(n: usize, x: &[u64], z: &[u64], listed: &[u16], t: usize, c: usize) 
     i
 }
 
-// The sum of three exponents of i.
-fn add_signs(a: u8, b: u8, e: u8) -> u8
-    ensures { λ r. ⌜ r ≡ (a + b + e) % 4 ⌝ }
-{
-    ((a as u16 + b as u16 + e as u16) % 4) as u8
-}
-
 // Row a is multiplied by row b; a and b may be the same. The number of clashes is returned.
 fn mul_rows(w: usize, x: &mut [u64], z: &mut [u64], p: &mut [u8], a: usize, b: usize) -> u16
     requires { ⌜ InRows w a b (mem (now x) (now z) (now p)) ⌝ }
@@ -67,7 +60,7 @@ fn mul_rows(w: usize, x: &mut [u64], z: &mut [u64], p: &mut [u8], a: usize, b: u
 {
     let f = products::imul_op_op(x, z, a * w, b * w, w);
     let e = f.phase;
-    p[a] = add_signs(p[a], p[b], e.0);
+    p[a] = products::add_signs(p[a], p[b], e.0);
     f.clashes
 }
 
