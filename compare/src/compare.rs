@@ -45,9 +45,18 @@ struct Wholes {
     last: Option<(Case, Vec<Option<String>>)>,
 }
 
+/// Pairwise products of rows by what the Rust has for them: in all rows of the first kind the phases cancel, and its
+/// `cmpnts_mul_pairwise` gives the phase; the second have others too, whose phases are those of its terms' products.
+#[derive(Default)]
+struct Signs {
+    cancelling: Count,
+    signed: Count,
+}
+
 #[derive(Default)]
 pub struct Run {
     wholes: Wholes,
+    signs: Signs,
     tallies: BTreeMap<&'static str, Tally>,
     kinds: BTreeMap<String, u64>,
     waiting: Vec<String>,
@@ -182,6 +191,9 @@ impl Run {
                 agree &= counted(&mut tally.calls_rust, agrees_with_rust(calls, rust));
             }
         }
+        if let Some(rust) = rust {
+            self.signs.judge(line, [Some(model), calls].iter().flatten().all(|answer| agrees_with_rust(answer, rust)));
+        }
         agree &= self.wholes.judge(line, [Some(model), rust, calls]);
         if !agree {
             self.show(line, model, rust, calls);
@@ -214,8 +226,26 @@ impl Run {
         let kinds: Vec<String> = self.kinds.iter().map(|(kind, count)| format!("{kind}: {count}")).collect();
         println!("answers of the model: {}", kinds.join(", "));
         println!("{}", self.wholes.report());
+        println!("{}", self.signs.report());
         println!("cases with a difference: {}", self.shown);
         self.shown + self.wholes.blind() as usize
+    }
+}
+
+impl Signs {
+    /// Counts a pairwise product that the Rust has answered.
+    fn judge(&mut self, line: &str, agree: bool) {
+        if let Some(case) = parsed(line).filter(|case| case.call == "pair") {
+            let mut phases = case.bytes(3).iter().zip(case.bytes(6));
+            let cancels = phases.all(|(left, right)| (left + right) % 4 == 0);
+            let kind = if cancels { &mut self.cancelling } else { &mut self.signed };
+            kind.add(agree);
+        }
+    }
+
+    fn report(&self) -> String {
+        let text = |count: &Count| format!("{}, {} differ", count.compared, count.differing);
+        format!("pair with the Rust, phases that cancel in every row: {}; others: {}", text(&self.cancelling), text(&self.signed))
     }
 }
 

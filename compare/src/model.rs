@@ -241,9 +241,7 @@ fn matrix(rows: &[Row]) -> Vec<u64> {
 
 fn pair(case: &Case, n: usize, left: &[Row]) -> String {
     let right = unpacked(n, &set_at(case, 4));
-    let times =
-        |(l, r): (&Row, &Row)| Row { paulis: product(&l.paulis, &r.paulis), phase: phase(&l.paulis, &r.paulis) };
-    let out: Vec<Row> = left.iter().zip(&right).map(times).collect();
+    let out: Vec<Row> = left.iter().zip(&right).map(|(l, r)| row_product(l, r)).collect();
     let numbers: Vec<usize> = left.iter().zip(&right).map(|(l, r)| clashes(&l.paulis, &r.paulis)).collect();
     format!("ok {} {}", rows_text(n, &out), joined(&numbers))
 }

@@ -99,11 +99,15 @@ pub fn product(a: &[Pauli], b: &[Pauli]) -> Vec<Pauli> {
     a.iter().zip(b).map(|(a, b)| times(*a, *b).0).collect()
 }
 
+/// Row a times row b: their phases and the exponent of the product add up, mod 4.
+pub fn row_product(a: &Row, b: &Row) -> Row {
+    let exponent = a.phase + b.phase + phase(&a.paulis, &b.paulis);
+    Row { paulis: product(&a.paulis, &b.paulis), phase: exponent % 4 }
+}
+
 /// Row a becomes row a times row b; with a = b the bits are cleared and the phase doubled, which the same rule gives.
 pub fn multiply(rows: &mut [Row], a: usize, b: usize) {
-    let exponent = rows[a].phase + rows[b].phase + phase(&rows[a].paulis, &rows[b].paulis);
-    rows[a].paulis = product(&rows[a].paulis, &rows[b].paulis);
-    rows[a].phase = exponent % 4;
+    rows[a] = row_product(&rows[a], &rows[b]);
 }
 
 /// How many qubits hold differing Paulis that are not I.

@@ -85,28 +85,37 @@ fn over_set(n: usize, m: usize, set: &Set, sink: Sink) {
     }
 }
 
-/// All pairs of one row with phases, and all pairs of two rows without.
+/// All pairs of one row and of two rows of one qubit with all phases, and all pairs of two rows of two qubits, whose
+/// phases go round.
 fn pairs(sink: Sink) {
-    for (n, m, signed) in [(0, 0, true), (0, 1, true), (1, 1, true), (2, 1, true), (1, 2, true), (2, 2, false)] {
+    for (n, m) in [(0, 0), (0, 1), (1, 1), (2, 1), (1, 2)] {
         let mut all = vec![];
-        sets(n, m, &mut |set| {
-            if signed || set.p == [0, 0] {
-                all.push(set.clone());
-            }
-        });
+        sets(n, m, &mut |set| all.push(set.clone()));
         for left in &all {
-            for right in &all {
-                let lengths = [left.x.len(), left.z.len(), m, m].map(|v| v as u64);
-                let right = vec![
-                    Field::Words(right.x.clone()),
-                    Field::Words(right.z.clone()),
-                    Field::Bytes(right.p.clone()),
-                    Field::Lengths(lengths),
-                ];
-                sink(call_on("pair", n, left, right).line());
-            }
+            all.iter().for_each(|right| sink(pair(n, left, right)));
         }
     }
+    let mut bare = vec![];
+    sets(2, 2, &mut |set| {
+        if set.p == [0, 0] {
+            bare.push(set.clone());
+        }
+    });
+    let signed = |set: &Set, code: usize| Set { p: vec![code as u8 & 3, (code >> 2) as u8 & 3], ..set.clone() };
+    for (i, left) in bare.iter().enumerate() {
+        for (j, right) in bare.iter().enumerate() {
+            let code = 7 * i + 11 * j;
+            sink(pair(2, &signed(left, code), &signed(right, code >> 4)));
+        }
+    }
+}
+
+fn pair(n: usize, left: &Set, right: &Set) -> String {
+    let m = left.p.len();
+    let lengths = [left.x.len(), left.z.len(), m, m].map(|v| v as u64);
+    let words = [&right.x, &right.z].map(|words| Field::Words(words.clone()));
+    let more = [words.to_vec(), vec![Field::Bytes(right.p.clone()), Field::Lengths(lengths)]].concat();
+    call_on("pair", n, left, more).line()
 }
 
 /// Lists of the numbers below n of at most `most` items, with or without repeats.

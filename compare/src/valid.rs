@@ -122,7 +122,7 @@ pub fn over_rows(random: &mut Random, call: &str, n: usize, rows: Vec<Row>) -> C
         "act" => vec![some(random, m), Field::Words(state(random, n))],
         // a matrix of many rows has more words than a line may ask for: refused as too short
         "matrix" => vec![Field::Number((m * words_for(m)).min(WORDS_IN_REACH) as u64)],
-        "pair" => second_set(random, n, m),
+        "pair" => second_set(random, n, &rows),
         "reduceall" => {
             let (order, listed): (Vec<u16>, Vec<u16>) = ((0..2 * n as u16).collect(), (0..m as u16).collect());
             let lists = Lists { order: &order, listed: &listed, extra: &[] };
@@ -139,8 +139,15 @@ fn state(random: &mut Random, n: usize) -> Vec<u64> {
     packed(n, &[row]).x
 }
 
-fn second_set(random: &mut Random, n: usize, m: usize) -> Vec<Field> {
-    let right = packed(n, &rows(random, n, m));
+/// The right set of a pairwise product. In one of four its phases undo the left ones, so that the bare rule of the Rust
+/// is met in every row.
+fn second_set(random: &mut Random, n: usize, left: &[Row]) -> Vec<Field> {
+    let m = left.len();
+    let mut right = rows(random, n, m);
+    if random.chance(250) {
+        right.iter_mut().zip(left).for_each(|(r, l)| r.phase = (4 - l.phase) % 4);
+    }
+    let right = packed(n, &right);
     let lengths = [right.x.len(), right.z.len(), m, m].map(|v| v as u64);
     vec![Field::Words(right.x), Field::Words(right.z), Field::Bytes(right.p), Field::Lengths(lengths)]
 }

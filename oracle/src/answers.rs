@@ -4,7 +4,8 @@ use std::collections::HashMap;
 
 use num_complex::Complex64;
 use oracle::container::bit_matrix::AsBitMatrix;
-use oracle::container::coeffs::complex_sign::ComplexSign;
+use oracle::container::coeffs::complex_sign::{ComplexSign, ComplexSignVec};
+use oracle::container::coeffs::traits::NumReprVec;
 use oracle::container::traits::{Elements, MutRefElements, RefElements};
 use oracle::container::word_iters::WordIters;
 use oracle::qubit::mode::{PauliMatrix, Qubits, SymplecticPart};
@@ -48,7 +49,7 @@ fn over_set(call: &str, n: usize, set: Set, f: &mut Fields) -> Option<String> {
         "comm" => comm(rows, f),
         "matrix" => Some(matrix(rows)),
         "central" => central(rows, f),
-        "pair" => pair(n, rows, f),
+        "pair" => pair(n, set, f),
         "imul" => imul(n, set, f),
         "reduce" => reduce(n, set, f),
         "reduceall" => reduce_all(n, set, f),
@@ -122,11 +123,32 @@ fn central(rows: &CmpntList, f: &mut Fields) -> Option<String> {
     Some(format!("ok {}", rows.belongs_to_centralizer(f.number()?) as u8))
 }
 
-fn pair(n: usize, left: &CmpntList, f: &mut Fields) -> Option<String> {
-    let right = f.set(n)?.word_iters;
-    let (out, phases) = left.cmpnts_mul_pairwise(&right).ok()?;
-    let numbers = (0..left.len()).map(|i| clashes(n, left, i, &right, i));
-    Some(format!("ok {} {} {}", rows_text(&out), phases_text(&phases), joined(numbers)))
+/// The rows are those of `cmpnts_mul_pairwise`, and where the phases of left and right add up to 0 mod 4, so are the
+/// phases: it takes bare words. The other phases are those of the products of the terms, which carry their phases as
+/// `ComplexSign` coefficients. Where both speak they have to agree, in every bit and every phase that cancels.
+fn pair(n: usize, left: Set, f: &mut Fields) -> Option<String> {
+    let right = f.set(n)?;
+    let (out, bare) = left.word_iters.cmpnts_mul_pairwise(&right.word_iters).ok()?;
+    let terms = products_of_terms(left.clone(), &right)?;
+    let exponents = |phases: &ComplexSignVec| phases.copied_iter().map(exponent).collect::<Vec<_>>();
+    let (bare, signed) = (exponents(&bare), exponents(&terms.coeffs));
+    let own = exponents(&left.coeffs).into_iter().zip(exponents(&right.coeffs)).collect::<Vec<_>>();
+    let cancels = |i: &usize| (own[*i].0 + own[*i].1) % 4 == 0;
+    let (rows, same) = (rows_text(&out), (0..own.len()).filter(cancels).all(|i| bare[i] == signed[i]));
+    if rows != rows_text(&terms.word_iters) || !same {
+        return Some("the Rust's two products differ".to_string());
+    }
+    let phases = (0..own.len()).map(|i| if cancels(&i) { bare[i] } else { signed[i] });
+    let numbers = (0..own.len()).map(|i| clashes(n, &left.word_iters, i, &right.word_iters, i));
+    Some(format!("ok {rows} {} {}", joined(phases), joined(numbers)))
+}
+
+/// Each term of left times the same term of right.
+fn products_of_terms(mut left: Set, right: &Set) -> Option<Set> {
+    for i in 0..right.len() {
+        left.get_elem_mut_ref(i).imul(right.get_elem_ref(i)).ok()?;
+    }
+    Some(left)
 }
 
 fn imul(n: usize, mut set: Set, f: &mut Fields) -> Option<String> {

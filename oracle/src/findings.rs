@@ -20,7 +20,7 @@ use oracle::qubit::pauli::springs::Springs;
 use oracle::qubit::traits::{PauliWordMutRef, QubitsRelabel};
 
 use crate::answers::answer;
-use crate::fields::{log_text, rows, rows_text, set_text};
+use crate::fields::{log_text, phases_text, rows, rows_text, set_text};
 
 use SymplecticPart::{X, Z};
 
@@ -29,7 +29,7 @@ type Set = Terms<ComplexSign>;
 /// A finding's number in docs/DIFFERENCES.md, what the Rust is said to give there, and what it gives.
 type Finding = (&'static str, &'static str, fn() -> String);
 
-const FINDINGS: [Finding; 24] = [
+const FINDINGS: [Finding; 25] = [
     ("R1", "1,2", matrix_of_x_and_z),
     ("R2", "error; log lost; 1,0 0,1 0,3", bad_column_after_work),
     ("R2", "error; log lost; 1,0 0,1 0,3", bad_listed_row_after_work),
@@ -50,6 +50,7 @@ const FINDINGS: [Finding; 24] = [
     ("R10", "ok 1 0", falling_x),
     ("R11", "Z words 0,1; coefficients 2 1", sorting_reorders_block),
     ("R12", "panic", row_too_large),
+    ("R13", "bare: 0; terms: ok - - 1 0", bare_pairs),
     ("S1", "(+1)^1 = -1, (-1)^2 = -1; i^-1 = +i", powers),
     ("S2", "Y: true, I: false; highest bit of 2: None", redundant_and_highest),
     ("S3", "0 of 2 terms; imaginary part found: false", sorted_copy_and_hermitian),
@@ -208,6 +209,12 @@ fn sorting_reorders_block() -> String {
 
 fn row_too_large() -> String {
     line("imul 1 1 0 0 0 1")
+}
+
+/// No qubits, one row of phase i times one of phase 1: the components have no phases, the terms have.
+fn bare_pairs() -> String {
+    let bare = rows(0, 1, &[], &[]).cmpnts_mul_pairwise(&rows(0, 1, &[], &[])).unwrap().1;
+    format!("bare: {}; terms: {}", phases_text(&bare), line("pair 0 - - 1 - - 0 0,0,1,1"))
 }
 
 fn powers() -> String {
