@@ -69,8 +69,7 @@ fn pairwise(left: &Set, right: &Set) {
     let (rust_left, rust_right) = (left.terms().word_iters, right.terms().word_iters);
     let (mut out, mut clashes) = (blank(left), vec![!0u16; ROWS]);
     assert_eq!(ours::cmpnts_mul_pairwise(left, right, &mut out, &mut clashes), 0);
-    let (rows, phases) = rust_left.cmpnts_mul_pairwise(&rust_right).unwrap();
-    agree(name, text(&out), format!("{} {}", fields::rows_text(&rows), fields::phases_text(&phases)));
+    agree(name, text(&out), fields::set_text(&fields::products_of_terms(left.terms(), &right.terms())));
     same("the clashes", clashes == clashing(left, right));
     line(
         name,

@@ -166,8 +166,7 @@ fn pairwise(left: &Set, right: &Set) {
     let mut out = blank();
     let mut clashes = vec![!0u16; m];
     assert_eq!(ours::cmpnts_mul_pairwise(left, right, &mut out, &mut clashes), 0);
-    let (rows, phases) = rust_left.cmpnts_mul_pairwise(&rust_right).unwrap();
-    agree(name, text(&out), format!("{} {}", fields::rows_text(&rows), fields::phases_text(&phases)));
+    agree(name, text(&out), fields::set_text(&fields::products_of_terms(left.terms(), &right.terms())));
     let numbers = (0..m).map(|i| fields::clashes(left.n, &rust_left, i, &rust_right, i));
     agree(name, fields::joined(clashes.iter()), fields::joined(numbers));
     let calls = 25_600_usize.div_ceil(m);

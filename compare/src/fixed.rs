@@ -49,6 +49,7 @@ fn list() -> Vec<String> {
     last_ones(&mut out);
     clashes(&mut out);
     whole_numbers(&mut out);
+    signed_pairs(&mut out);
     out
 }
 
@@ -486,6 +487,19 @@ fn last_ones(out: &mut Vec<String>) {
         out.push(check_of(&log, CLAIM));
     }
     out.push("elemf 1 0,0 0,0 7ff8000000000000,0 0,0 0 1".to_string());
+}
+
+/// Pairwise products of rows with phases: the two of RULES 11.7, and for four pairs of letters all sixteen pairs of phases.
+fn signed_pairs(out: &mut Vec<String>) {
+    group(out, "pairs with phases", &["pair 1 1 0 3 1 1 2 1,1,1,1", "pair 0 - - 1 - - 0 0,0,1,1"]);
+    let rows = |letter: Pauli, phase: fn(u8) -> u8| -> Set {
+        packed(1, &(0..16).map(|code| Row { paulis: vec![letter], phase: phase(code) }).collect::<Vec<_>>())
+    };
+    for (l, r) in [(Pauli::I, Pauli::I), (Pauli::X, Pauli::Y), (Pauli::Y, Pauli::X), (Pauli::Z, Pauli::Z)] {
+        let right = rows(r, |code| code % 4);
+        let more = vec![Field::Words(right.x), Field::Words(right.z), Field::Bytes(right.p), Field::Lengths([16; 4])];
+        out.push(valid::call_on("pair", 1, &rows(l, |code| code / 4), more).line());
+    }
 }
 
 /// How many qubits clash: none, one, all; of a row by itself; and lent numbers that are not m.

@@ -129,7 +129,7 @@ fn central(rows: &CmpntList, f: &mut Fields) -> Option<String> {
 fn pair(n: usize, left: Set, f: &mut Fields) -> Option<String> {
     let right = f.set(n)?;
     let (out, bare) = left.word_iters.cmpnts_mul_pairwise(&right.word_iters).ok()?;
-    let terms = products_of_terms(left.clone(), &right)?;
+    let terms = products_of_terms(left.clone(), &right);
     let exponents = |phases: &ComplexSignVec| phases.copied_iter().map(exponent).collect::<Vec<_>>();
     let (bare, signed) = (exponents(&bare), exponents(&terms.coeffs));
     let own = exponents(&left.coeffs).into_iter().zip(exponents(&right.coeffs)).collect::<Vec<_>>();
@@ -141,14 +141,6 @@ fn pair(n: usize, left: Set, f: &mut Fields) -> Option<String> {
     let phases = (0..own.len()).map(|i| if cancels(&i) { bare[i] } else { signed[i] });
     let numbers = (0..own.len()).map(|i| clashes(n, &left.word_iters, i, &right.word_iters, i));
     Some(format!("ok {rows} {} {}", joined(phases), joined(numbers)))
-}
-
-/// Each term of left times the same term of right.
-fn products_of_terms(mut left: Set, right: &Set) -> Option<Set> {
-    for i in 0..right.len() {
-        left.get_elem_mut_ref(i).imul(right.get_elem_ref(i)).ok()?;
-    }
-    Some(left)
 }
 
 fn imul(n: usize, mut set: Set, f: &mut Fields) -> Option<String> {

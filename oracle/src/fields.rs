@@ -125,6 +125,14 @@ pub fn set_text(set: &Terms<ComplexSign>) -> String {
     format!("{} {}", rows_text(&set.word_iters), phases_text(&set.coeffs))
 }
 
+/// Each term of left times the same term of right, as many rows of as many qubits.
+pub fn products_of_terms(mut left: Terms<ComplexSign>, right: &Terms<ComplexSign>) -> Terms<ComplexSign> {
+    for i in 0..right.len() {
+        left.get_elem_mut_ref(i).imul(right.get_elem_ref(i)).expect("the same qubits");
+    }
+    left
+}
+
 pub fn log_text(log: &[(usize, usize)]) -> String {
     joined(log.iter().map(|(a, b)| format!("{a}:{b}")))
 }
