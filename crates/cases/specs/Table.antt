@@ -1,4 +1,4 @@
--- RULES 11, "Cases at each end": P1 to P12 and the ends of the floats. A row of the table is a call's own contract, or its definition, at what the
+-- RULES 11, "Cases at each end": P1 to P12, rows with phases, and the ends of the floats. A row of the table is a call's own contract, or its definition, at what the
 -- case gives, with the outcome that RULES 11 says; so that the call accepts what it is given is part of the row. Assumes nothing.
 use mathlib.Core.Path.{_≡_}
 use mathlib.Core.Bool.{true, false}
@@ -73,6 +73,9 @@ pub record Table : Type 0 where
   pub p1 : MulPairwise 1 (rowX 0) (rowY 0) (rowI 0) (rowZ 1) (9 ∷ []) (1 ∷ []) Done
   pub p2 : MulPairwise 1 (rowY 0) (rowX 0) (rowI 0) (rowZ 3) (9 ∷ []) (1 ∷ []) Done
   pub p3 : MulPairwise 1 (rowZ 0) (rowX 0) (rowI 0) (rowY 1) (9 ∷ []) (1 ∷ []) Done
+  -- 11.7 X of phase 3 times Y of phase 2: Z, 2. No qubits, phase 1 times phase 0: 1
+  pub signed : MulPairwise 1 (rowX 3) (rowY 2) (rowI 0) (rowZ 2) (9 ∷ []) (1 ∷ []) Done
+  pub signed-none : MulPairwise 0 (mem [] [] (1 ∷ [])) (mem [] [] (0 ∷ [])) (mem [] [] (9 ∷ [])) (mem [] [] (1 ∷ [])) (9 ∷ []) (0 ∷ []) Done
   -- P4 Y on 1: state 0, 3. P5 Z on 1: state 1, 2
   pub p4 : ImulState 1 (rowY 0) 0 (1 ∷ []) (0 ∷ []) (Exponent (record { 0 = 3 }))
   pub p5 : ImulState 1 (rowZ 0) 0 (1 ∷ []) (1 ∷ []) (Exponent (record { 0 = 2 }))

@@ -7,7 +7,8 @@ use native.Mathlib.Omega.{arith}
 use borrow.Author.Tests.{leb-false}
 use lib.ListN.{length}
 use Rattle.pauli.specs.Pauli.{hasX, hasZ, _·_, turn}
-use Rattle.pauli.specs.Rows.{pairRow, actOn}
+use Rattle.pauli.specs.Row.{mulRow}
+use Rattle.pauli.specs.Rows.{actOn}
 use Rattle.pauli.proofs.Lists.{length-each}
 use Rattle.pauli.proofs.RowLaws.{pad-mul}
 use Rattle.encoding.specs.Limits.{wordsOf}
@@ -43,7 +44,7 @@ module _ (n : ℕ) {L R O O′ : Mem} {cs cs′ : List ℕ} (wl : Words64 L) (wr
   laid = c .rows ∙ ap (λ (k : ℕ). leftOr k O (lay n (count L) (pairs n L R))) none-fits
 
   proper : Proper n (count L) (pairs n L R)
-  unfolding pairRow rowsIn
+  unfolding mulRow rowsIn
   proper =
       record {
         long = λ k h.
@@ -59,13 +60,13 @@ module _ (n : ℕ) {L R O O′ : Mem} {cs cs′ : List ℕ} (wl : Words64 L) (wr
 
   -- its words
   pub pairwise-x : (k : ℕ) → k < count L → row (wordsOf n) k (O′ .xs) ≡ xors (row (wordsOf n) k (L .xs)) (row (wordsOf n) k (R .xs))
-  unfolding layIn pairRow
+  unfolding layIn mulRow
   pairwise-x k h =
       ap (λ (N : Mem). row (wordsOf n) k (N .xs)) laid ∙ row-lay-list hasX (wordsOf n) (count L) (λ j. pairs n L R j .ps) k h
       ∙ product-x n (wordsOf n) (both .left .valid) (both .right .valid) k k h (right-in k h) (wl .x-fit) (wr .x-fit)
 
   pub pairwise-z : (k : ℕ) → k < count L → row (wordsOf n) k (O′ .zs) ≡ xors (row (wordsOf n) k (L .zs)) (row (wordsOf n) k (R .zs))
-  unfolding layIn pairRow
+  unfolding layIn mulRow
   pairwise-z k h =
       ap (λ (N : Mem). row (wordsOf n) k (N .zs)) laid ∙ row-lay-list hasZ (wordsOf n) (count L) (λ j. pairs n L R j .ps) k h
       ∙ product-z n (wordsOf n) (both .left .valid) (both .right .valid) k k h (right-in k h) (wl .z-fit) (wr .z-fit)

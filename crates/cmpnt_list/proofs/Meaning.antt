@@ -16,9 +16,9 @@ use Rattle.pauli.specs.Gauss.{_⊗_, ipow}
 use Rattle.pauli.specs.Pauli.{Pauli, _·_, turn}
 use Rattle.pauli.specs.declared.PauliMatrix.the-variants.{I, X, Y, Z}
 use Rattle.pauli.specs.Row.{Row, mulRow}
-use Rattle.pauli.specs.Rows.{phaseOf, clashesOf, commute, central, holding, countOf, pairRow, withQubit, actOn, actPhaseOn}
+use Rattle.pauli.specs.Rows.{phaseOf, clashesOf, commute, central, holding, countOf, withQubit, actOn, actPhaseOn}
 use Rattle.pauli.specs.Matrix.{times, scaled, Same, Commute, Anticommute, matrixOf, rowMatrix, basis, apply}
-use Rattle.pauli.proofs.Meaning.{matrix-product, pairwise-product, commute-iff, clashes-even, clashes-odd, central-iff, count-held, counts-add-up, action}
+use Rattle.pauli.proofs.Meaning.{matrix-product, row-product, bare-exactly, commute-iff, clashes-even, clashes-odd, central-iff, count-held, counts-add-up, action}
 use Rattle.encoding.specs.Limits.{maxRows, wordsOf}
 use Rattle.encoding.specs.Words.{bitAt}
 use Rattle.encoding.specs.Set.{Mem, count, rowsIn, rowsOf, list, lay, Valid, Sound, stateOf, layState}
@@ -163,14 +163,14 @@ module _ (n : ℕ) {M : Mem} {out out′ : List ℕ} (c : CompatibilityMatrix n 
   matrix-spare i j hi lo hi′ =
       matrix-bit i j hi hi′ ∙ List·getD-eq-default (list (count M) (λ j. commuting n M i j)) false (subst (λ (k : ℕ). k ≤ j) (sym (length-list (count M) (λ j. commuting n M i j))) lo)
 
--- ---- cmpnts_mul_pairwise: matrix(left) matrix(right) is i to the phase byte times matrix(out)
+-- ---- cmpnts_mul_pairwise: the matrix of a row that is written is the product of the matrices of left and right, each with its phase
 
 module _ (n : ℕ) {L R O O′ : Mem} {cs cs′ : List ℕ} (wl : Words64 L) (wr : Words64 R) (c : MulPairwise n L R O O′ cs cs′ Done) where
   no-fault : pairwiseFault n L R O (length cs) ≡ 0
   no-fault = done-none (pairwiseFault n L R O (length cs)) (sym (c .answer))
 
-  pub pairwise-rows : (k : ℕ) → k < count L → rowsOf n O′ k ≡ pairRow n (rowsOf n L k) (rowsOf n R k)
-  unfolding pairRow rowsIn
+  pub pairwise-rows : (k : ℕ) → k < count L → rowsOf n O′ k ≡ mulRow n (rowsOf n L k) (rowsOf n R k)
+  unfolding mulRow rowsIn
   pairwise-rows k h =
       let w = wordsOf n in
       let m = count L in
@@ -183,12 +183,22 @@ module _ (n : ℕ) {L R O O′ : Mem} {cs cs′ : List ℕ} (wl : Words64 L) (wr
       ap (λ (N : Mem). rowsOf n N k) (c .rows ∙ ap (λ (j : ℕ). leftOr j O (lay n m (pairs n L R))) no-fault)
       ∙ read-lay n w m (pairs n L R) (v .wide) k h (ap length (pad-mul p q (r ∙ sym l)) ∙ length-each _·_ p q (r ∙ sym l) ∙ l)
 
-  pub pairwise-meaning : (k : ℕ) → k < count L
-      → Same n (times n (matrixOf n (rowsOf n L k)) (matrixOf n (rowsOf n R k))) (scaled (ipow (getD (O′ .es) k 0)) (matrixOf n (rowsOf n O′ k)))
-  unfolding rowsIn
+  pub pairwise-meaning : (k : ℕ) → k < count L → Same n (times n (rowMatrix n (rowsOf n L k)) (rowMatrix n (rowsOf n R k))) (rowMatrix n (rowsOf n O′ k))
   pairwise-meaning k h =
-      subst (λ (x : Row). Same n (times n (matrixOf n (rowsOf n L k)) (matrixOf n (rowsOf n R k))) (rowMatrix n x)) (sym (pairwise-rows k h))
-      (pairwise-product n (rowsOf n L k) (rowsOf n R k))
+      subst (λ (x : Row). Same n (times n (rowMatrix n (rowsOf n L k)) (rowMatrix n (rowsOf n R k))) (rowMatrix n x)) (sym (pairwise-rows k h))
+      (row-product n (rowsOf n L k) (rowsOf n R k))
+
+  -- the bytes that enter are below 4: both sets are tested for 5
+  pub pairwise-small : (k : ℕ) → (getD (L .es) k 0 < 4) × (getD (R .es) k 0 < 4)
+  pairwise-small k = let g = pairwise-asked n O (length cs) wl wr no-fault in (g .0 .left .valid .small k, g .0 .right .valid .small k)
+
+  -- the bare rule of the Rust's `cmpnts_mul_pairwise`, phase(left, right) alone, gives the byte exactly where the two bytes add up to 0 mod 4
+  pub pairwise-bare : (k : ℕ) → k < count L
+      → (getD (O′ .es) k 0 ≡ phaseOf n (rowsOf n L k) (rowsOf n R k)) ↔ ((getD (L .es) k 0 + getD (R .es) k 0) % 4 ≡ 0)
+  unfolding rowsIn
+  pairwise-bare k h =
+      subst (λ (x : Row). (x .p ≡ phaseOf n (rowsOf n L k) (rowsOf n R k)) ↔ ((getD (L .es) k 0 + getD (R .es) k 0) % 4 ≡ 0)) (sym (pairwise-rows k h))
+      (bare-exactly n (rowsOf n L k) (rowsOf n R k))
 
   -- number k is that of the qubits where the rows clash: even exactly when their matrices commute, odd exactly when they anticommute
   pub pairwise-number : (k : ℕ) → k < count L → getD cs′ k 0 ≡ clashesOf n (rowsOf n L k) (rowsOf n R k)

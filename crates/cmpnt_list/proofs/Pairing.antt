@@ -1,16 +1,19 @@
--- The pairwise product, row by row: what the row leaf leaves in the parts that it is lent, said of the sets' rows. Assumes nothing.
+-- The pairwise product, row by row: what the row leaf leaves in the parts that it is lent, and the byte written, said of the sets' rows. Of the third
+-- set r rows are written: the leaf's words are row r of the product, and the sum of its exponent and of both bytes is the product's phase. Assumes nothing.
 use mathlib.Core.Path.{_≡_, refl, sym, ap, _∙_, subst}
 use mathlib.Core.List.{List}
-use Prim.Native.Nat.{ℕ, _+_, _-_, _*_, _<_}
+use Prim.Native.Nat.{ℕ, _+_, _-_, _*_, _%_, _<_}
+use native.Mathlib.Omega.{arith}
 use native.Mathlib.Nat.{ne-of-lt, not-suc-le-zero}
 use borrow.Author.Count.{below-more}
 use lib.ListN.{length, getD, set, length-set}
 use lib.Seq.{getD-set-same, getD-set-other, ext-getD}
 use Rattle.pauli.specs.Pauli.{hasX, hasZ, mul}
-use Rattle.pauli.specs.Rows.{clashesOf, pairRow}
+use Rattle.pauli.specs.Row.{expo, mulRow}
+use Rattle.pauli.specs.Rows.{clashesOf}
 use Rattle.encoding.specs.Limits.{wordsOf}
 use Rattle.encoding.specs.Words.{pack}
-use Rattle.encoding.specs.Set.{row, Mem, mem, count, rowsOf}
+use Rattle.encoding.specs.Set.{row, Mem, mem, count, rowsIn, rowsOf}
 use Rattle.encoding.proofs.Parts.{length-list, getD-list}
 use Rattle.encoding.proofs.Memory.{x-row}
 use Rattle.encoding.proofs.RowWords.{inWords, product-is, phase-is, clashes-fit}
@@ -37,6 +40,10 @@ numbered-all n {L} {R} {r} {cs} e c =
     (λ k h. let i : k < count L = subst (λ (j : ℕ). k < j) (c .long) h in c .number k (subst (λ (j : ℕ). k < j) (sym e) i) ∙ sym (getD-list (count L) f k 0 i))
 
 -- ---- the third set, of which r rows are written
+
+-- an exponent may be reduced before it is added
+low-last : (x y z : ℕ) → (x + y + z % 4) % 4 ≡ (x + y + z) % 4
+low-last x y z = omega arith
 
 module _ (n : ℕ) {L R : Mem} (b : BothReady n L R) where
   pub holds-none : {O : Mem} {q : ℕ} → ThirdReady n (count L) (count R) q O → Holds (wordsOf n) (count L) 0 (pairs n L R) O
@@ -71,11 +78,19 @@ module _ (n : ℕ) {L R : Mem} (b : BothReady n L R) where
             ∙ q .here .factor .number ∙ clashes-fit n (wordsOf n) (b .left .valid) R (b .left .few-qubits) r r hr);
       }
 
-  module _ {ox oz op ox′ oz′ : List ℕ} {r : ℕ} {p : Factor} (hr : r < count L) (hr′ : r < count R) where
+  one-byte : {ox oz ox′ oz′ : List ℕ} {r v : ℕ} {p : Factor} → r < count L → v ≡ (getD (L .es) r 0 + getD (R .es) r 0 + p .phase .0) % 4
+      → ProductAt (r * wordsOf n) (r * wordsOf n + wordsOf n) (L .xs) (L .zs) (R .xs) (R .zs) ox oz ox′ oz′ p → v ≡ pairs n L R r .p
+  unfolding mulRow rowsIn
+  one-byte {ox} {oz} {ox′} {oz′} {r} {v} {p} hr hv q =
+      let x = getD (L .es) r 0 in
+      let y = getD (R .es) r 0 in
+      hv ∙ ap (λ (e : ℕ). (x + y + e) % 4) (q .here .factor .exponent ∙ phase-is n (wordsOf n) (b .left .valid) R r r hr) ∙ low-last x y (expo n (rowsOf n L r) (rowsOf n R r))
+
+  module _ {ox oz op ox′ oz′ : List ℕ} {r v : ℕ} {p : Factor} (hr : r < count L) (hr′ : r < count R) (hv : v ≡ (getD (L .es) r 0 + getD (R .es) r 0 + p .phase .0) % 4) where
     one-more : Holds (wordsOf n) (count L) r (pairs n L R) (mem ox oz op)
         → ProductAt (r * wordsOf n) (r * wordsOf n + wordsOf n) (L .xs) (L .zs) (R .xs) (R .zs) ox oz ox′ oz′ p
-        → Holds (wordsOf n) (count L) (r + 1) (pairs n L R) (mem ox′ oz′ (set op r (p .phase .0)))
-    unfolding pairRow
+        → Holds (wordsOf n) (count L) (r + 1) (pairs n L R) (mem ox′ oz′ (set op r v))
+    unfolding mulRow
     one-more h q =
         let w = wordsOf n in
         let l = b .left .valid in
@@ -83,7 +98,7 @@ module _ (n : ℕ) {L R : Mem} (b : BothReady n L R) where
         record {
           x-long = q .x-rest .long ∙ h .x-long;
           z-long = q .z-rest .long ∙ h .z-long;
-          p-long = length-set op r (p .phase .0) ∙ h .p-long;
+          p-long = length-set op r v ∙ h .p-long;
           x-row =
               below-more (λ (k : ℕ). row w k ox′ ≡ pack hasX w (pairs n L R k .ps)) r
               (λ k i. row-other w k r (q .x-rest) (ne-of-lt i) ∙ h .x-row k i)
@@ -93,14 +108,14 @@ module _ (n : ℕ) {L R : Mem} (b : BothReady n L R) where
               (λ k i. row-other w k r (q .z-rest) (ne-of-lt i) ∙ h .z-row k i)
               (q .here .z-words ∙ ap (λ (j : ℕ). pack hasZ j (mul (inWords w L r) (inWords w R r))) long ∙ product-is n w l R (b .right .valid) hasZ refl r r hr hr′);
           byte =
-              below-more (λ (k : ℕ). getD (set op r (p .phase .0)) k 0 ≡ pairs n L R k .p) r
-              (λ k i. getD-set-other op r k (p .phase .0) 0 (ne-of-lt i) ∙ h .byte k i)
-              (getD-set-same op r (p .phase .0) 0 (subst (λ (j : ℕ). r < j) (sym (h .p-long)) hr) ∙ q .here .factor .exponent ∙ phase-is n w l R r r hr);
+              below-more (λ (k : ℕ). getD (set op r v) k 0 ≡ pairs n L R k .p) r
+              (λ k i. getD-set-other op r k v 0 (ne-of-lt i) ∙ h .byte k i)
+              (getD-set-same op r v 0 (subst (λ (j : ℕ). r < j) (sym (h .p-long)) hr) ∙ one-byte hr hv q);
         }
 
     pub holds-more : {m a e : ℕ} {cs : List ℕ} → RowAt r (wordsOf n) m a e → Holds (wordsOf n) (count L) r (pairs n L R) (mem ox oz op) → Numbered n L R r cs
         → ProductAt a e (L .xs) (L .zs) (R .xs) (R .zs) ox oz ox′ oz′ p
-        → Holds (wordsOf n) (count L) (r + 1) (pairs n L R) (mem ox′ oz′ (set op r (p .phase .0))) × Numbered n L R (r + 1) (set cs r (p .clashes))
+        → Holds (wordsOf n) (count L) (r + 1) (pairs n L R) (mem ox′ oz′ (set op r v)) × Numbered n L R (r + 1) (set cs r (p .clashes))
     holds-more {m} {a} {e} at h c q =
         let q′ : ProductAt (r * wordsOf n) (r * wordsOf n + wordsOf n) (L .xs) (L .zs) (R .xs) (R .zs) ox oz ox′ oz′ p =
         subst (λ (i : ℕ). ProductAt i (r * wordsOf n + wordsOf n) (L .xs) (L .zs) (R .xs) (R .zs) ox oz ox′ oz′ p) (at .from)

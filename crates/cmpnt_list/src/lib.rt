@@ -438,7 +438,7 @@ fn mul_part(
     )
 }
 
-// Row by row, left times right is written into the third set, the exponent into its phase byte, and the number of clashes.
+// Row by row, left times right is written into the third set, with its phase byte, and the number of clashes.
 fn mul_rows(
     n: usize,
     lx: &[u64],
@@ -462,16 +462,18 @@ fn mul_rows(
         let s = row_span(r, n, m);
         let a = s.0;
         let e = s.1;
-        let p = mul_part(a, e, lx, lz, rx, rz, ox, oz);
-        let i = p.phase;
-        op[r] = i.0;
-        clashes[r] = p.clashes;
+        let f = mul_part(a, e, lx, lz, rx, rz, ox, oz);
+        let i = f.phase;
+        let p = lp[r];
+        let q = rp[r];
+        op[r] = products::add_signs(p, q, i.0);
+        clashes[r] = f.clashes;
         r += 1;
     }
 }
 
-// Each row of the left set times the same row of the right goes into a third set; its phase byte is the exponent of the product.
-// The number of qubits that hold differing Paulis other than I is given for each row.
+// Each row of the left set times the same row of the right goes into a third set; its phase byte is the sum of theirs and of the
+// exponent of the product. The number of qubits that hold differing Paulis other than I is given for each row.
 pub fn cmpnts_mul_pairwise(
     n: usize,
     lx: &[u64],
