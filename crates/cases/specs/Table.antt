@@ -1,5 +1,6 @@
--- RULES 11, "Cases at each end": P1 to P12, rows with phases, and the ends of the floats. A row of the table is a call's own contract, or its definition, at what the
--- case gives, with the outcome that RULES 11 says; so that the call accepts what it is given is part of the row. Assumes nothing.
+-- RULES 11, "Cases at each end": P1 to P12, rows with phases, and the ends of the floats. A row of the table is a call's own contract, or its
+-- definition, at what the case gives, with the outcome that RULES 11 says; so that the call accepts what it is given is part of the row. Assumes
+-- nothing.
 use mathlib.Core.Path.{_≡_}
 use mathlib.Core.Bool.{true, false}
 use mathlib.Core.List.{List, [], _∷_}
