@@ -245,7 +245,11 @@ impl Signs {
 
     fn report(&self) -> String {
         let text = |count: &Count| format!("{}, {} differ", count.compared, count.differing);
-        format!("pair with the Rust, phases that cancel in every row: {}; others: {}", text(&self.cancelling), text(&self.signed))
+        format!(
+            "pair with the Rust, phases that cancel in every row: {}; others: {}",
+            text(&self.cancelling),
+            text(&self.signed)
+        )
     }
 }
 
