@@ -14,7 +14,7 @@ use Rattle.encoding.specs.Limits.{maxQubits, maxRows, wordsOf}
 use Rattle.encoding.specs.Set.{Mem, count, rowsOf, lay, Valid, Sound}
 use Rattle.encoding.specs.Refusals.{faultFrom, fault, joined, least, tooLarge, setTests, numberTests, leftOr, rowsTests}
 use Rattle.encoding.proofs.Scan.{none-of}
-use Rattle.encoding.proofs.Faults.{both-parts, least-none, not-large, number-is, refusing}
+use Rattle.encoding.proofs.Faults.{both-parts, least-none, not-large, number-is, refusing, orElse, or-first}
 use Rattle.encoding.proofs.Memory.{laid}
 use Rattle.encoding.proofs.Sets.{sound-of}
 use Rattle.encoding.proofs.Parts.{length-list, getD-list}
@@ -28,13 +28,15 @@ use Rattle.reduction.proofs.Stop.{stops-is-capped}
 use Rattle.terms.specs.declared.reduce.Progress.{Progress}
 use Rattle.terms.specs.declared.Canonicalized.{Canonicalized}
 use Rattle.terms.specs.declared.Canonicalized.the-variants.{Done, Full, Refused}
-use Rattle.terms.specs.Refused.{listTests, reduceTests, Reducible}
+use Rattle.terms.specs.Ranks.{byRank}
+use Rattle.terms.specs.Refused.{listTests, reduceTests, columnTwice, listLines, reduceFault, Reducible}
 use Rattle.pauli.specs.Rows.{clashesOf}
 use Rattle.terms.specs.declared.Clashes.the-variants as clash
 use Rattle.terms.specs.Leaves.{mulIn, clashesIn}
 use Rattle.terms.specs.Work.{Below, runOf, outcome, start, Does, BothIn, ListsIn}
 use Rattle.terms.specs.Calls.{clashesOr, Multiplies, answerOf, numberFor, rowsLeft, entriesLeft, Leaves, outcomeOf, wholeOutcome, upTo}
-use Rattle.terms.proofs.Scans.{asked-of}
+use Rattle.terms.proofs.Ranks.{ranked}
+use Rattle.terms.proofs.Scans.{no-line, asked-of, once-of}
 use Rattle.terms.proofs.RowView.{mul-view, clashes-view}
 
 -- ---- what no refusal leaves
@@ -63,16 +65,28 @@ module _ (n : ℕ) (M : Mem) {f : ℕ} (ef : f ≡ fault (setTests n M)) (v : f 
       )
 
   -- the set's number comes before those of the lists
-  pub reduce-first : (order listed extra : List ℕ) → (f ≡ 0 → ⊥) → (f ≡ fault (reduceTests n M order listed extra)) × (f ≡ 0 → Reducible n order listed extra M)
-  reduce-first order listed extra ne = (before-six _ _ _ _ _ _ ef ne, λ z. absurd (ne z))
+  module _ (order listed extra : List ℕ) where
+    -- 15, or 0
+    late : ℕ
+    late = byRank (columnTwice order ∷ [])
 
-  pub reduce-told : (order listed extra : List ℕ) (g : ℕ) → f ≡ 0 → g ≡ fault (listTests n (count M) order listed extra)
-      → (g ≡ fault (reduceTests n M order listed extra)) × (g ≡ 0 → Reducible n order listed extra M)
-  unfolding least
-  reduce-told order listed extra g z eg = (
-    both-parts (setTests n M) (listTests n (count M) order listed extra) ef eg (ap (λ k. least k g) (sym z)),
-    λ e. record { sound = sound-of n M ef v z; asked = asked-of n (count M) order listed extra (sym eg ∙ e) },
-  )
+    by-parts : {h : ℕ} → h ≡ fault (reduceTests n M order listed extra) → orElse h late ≡ reduceFault n M order listed extra
+    unfolding late
+    by-parts e = ap (λ k. orElse k late) e ∙ sym (ranked 0 (reduceTests n M order listed extra) (columnTwice order ∷ []))
+
+    pub reduce-first : (f ≡ 0 → ⊥) → (f ≡ reduceFault n M order listed extra) × (f ≡ 0 → Reducible n order listed extra M)
+    reduce-first ne = (sym (or-first f late ne) ∙ by-parts (before-six _ _ _ _ _ _ ef ne), λ z. absurd (ne z))
+
+    pub reduce-told : (g : ℕ) → f ≡ 0 → g ≡ byRank (listLines n (count M) order listed extra)
+        → (g ≡ reduceFault n M order listed extra) × (g ≡ 0 → Reducible n order listed extra M)
+    unfolding least late
+    reduce-told g z eg =
+        let ts = listTests n (count M) order listed extra in (
+          eg ∙ ranked 0 ts (columnTwice order ∷ []) ∙ by-parts (both-parts (setTests n M) ts ef refl (ap (λ k. least k (fault ts)) (sym z))),
+          λ e.
+              let no = no-line n (count M) order listed extra (sym eg ∙ e) in
+              record { sound = sound-of n M ef v z; asked = asked-of n (count M) order listed extra (no .0); columns-once = once-of order (no .1) },
+        )
 
 -- the numbers of the lists by their places
 pub lists-in : {n : ℕ} {order listed extra : List ℕ} {M : Mem} → Reducible n order listed extra M → ListsIn n order listed extra M

@@ -6,7 +6,7 @@ use native.Mathlib.Nat.{le-min, mul-le-mul-right}
 use native.Mathlib.Omega.{arith}
 use mathlib.Core.Path.{_≡_, refl, sym, ap, ap₂, _∙_, subst, subst₂}
 use mathlib.Core.Logic.{_↔_}
-use mathlib.Core.Bool.{Bool}
+use mathlib.Core.Bool.{Bool, false}
 use mathlib.Core.List.{List, [], _∷_, _++_}
 use lib.ListN.{length, take}
 use Rattle.pauli.specs.Pauli.{Pauli, _·_}
@@ -16,15 +16,15 @@ use Rattle.pauli.proofs.RowLaws.{pad-mul}
 use Rattle.encoding.specs.Limits.{wordsOf}
 use Rattle.encoding.specs.Set.{Mem, count, rowsIn, rowsOf, lay, Valid, Sound}
 use Rattle.encoding.specs.Refusals.{fault, setTests, leftOr}
-use Rattle.encoding.proofs.Faults.{joined-fault, least-none, First, refused-iff}
+use Rattle.encoding.proofs.Faults.{joined-fault, least-none, or-none, not-large, First, refused-iff}
 use Rattle.encoding.proofs.Memory.{Proper, row-count, count-lay, read-lay, valid-lay}
-use Rattle.reduction.specs.Lists.{All, different}
+use Rattle.reduction.specs.Lists.{Distinct, All, different}
 use Rattle.reduction.specs.Rule.{Entry, Run, mulAt, reduce}
 use Rattle.reduction.specs.Replay.{replay}
 use Rattle.reduction.specs.Log.{pairs, logged, capacity}
 use Rattle.reduction.specs.Capacity.{Reduced, done, full, capped}
 use Rattle.reduction.specs.Demand.{Asked}
-use Rattle.reduction.proofs.Lists.{all-mono, in-left}
+use Rattle.reduction.proofs.Lists.{all-mono, in-left, in-either, most-below}
 use Rattle.reduction.proofs.Run.{mulAt-ind}
 use Rattle.reduction.proofs.Log.{pairs-units, cut-logged}
 use Rattle.reduction.proofs.Stop.{run-fits, run-stops}
@@ -32,9 +32,11 @@ use Rattle.reduction.proofs.Theorems.{log-replays, entries-good, entries-most, 
 use Rattle.reduction.proofs.PauliRows.{rows-laws}
 use Rattle.terms.specs.declared.Canonicalized.{Canonicalized}
 use Rattle.terms.specs.declared.Canonicalized.the-variants.{Done, Full, Refused}
-use Rattle.terms.specs.Refused.{listTests, reduceTests}
+use Rattle.terms.specs.Ranks.{TableLine, byRank}
+use Rattle.terms.specs.Refused.{repeated, listTests, reduceTests, columnTwice, reduceFault}
 use Rattle.terms.specs.Calls.{answerOf, rowsLeft, entriesLeft, outcomeOf, Reduces}
-use Rattle.terms.proofs.Scans.{asked-of}
+use Rattle.terms.proofs.Ranks.{Given, given-iff, ranked}
+use Rattle.terms.proofs.Scans.{asked-of, once-of}
 
 -- ---- rows of n qubits stay so
 
@@ -62,7 +64,7 @@ proper-set {n} {M} s = record { long = λ r h. row-count n (wordsOf n) (s .valid
 
 pub record Finished (n : ℕ) (order listed extra : List ℕ) (M : Mem) (M′ : Mem) (log′ : List ℕ) (k t : ℕ) : Type 0 where
   pub asked : Asked (n + n) (count M) order listed extra
-  pub no-fault : fault (reduceTests n M order listed extra) ≡ 0
+  pub no-fault : reduceFault n M order listed extra ≡ 0
   pub entries : k ≡ length (reduce (bitRow n) (mulRow n) order listed extra (rowsOf n M) .log)
   pub pivots : t ≡ reduce (bitRow n) (mulRow n) order listed extra (rowsOf n M) .t
   -- the log cut to its entry count
@@ -83,14 +85,34 @@ done-run bit mul′ room order listed extra σ s e = go (decLe (length (reduce b
     go (yes h) = let q = run-fits bit mul′ room order listed extra σ h in cc
     go (no h) = absurd (let q = run-stops bit mul′ room order listed extra σ (omega arith) in let z : _≡_ {A = ℕ} 0 1 = cc in omega arith)
 
-reduce-asked : (n : ℕ) (M : Mem) (order listed extra : List ℕ) → fault (reduceTests n M order listed extra) ≡ 0 → Asked (n + n) (count M) order listed extra
-reduce-asked n M order listed extra z =
-    asked-of n (count M) order listed extra (least-none (fault (setTests n M)) (fault (listTests n (count M) order listed extra)) (joined-fault (setTests n M) (listTests n (count M) order listed extra) ∙ z) .1)
+-- nothing is refused: no line from 1 to 7 fits, and no column is there twice
+module _ (n : ℕ) (M : Mem) (order listed extra : List ℕ) (z : reduceFault n M order listed extra ≡ 0) where
+  pub none-refused : (fault (reduceTests n M order listed extra) ≡ 0) × (repeated order ≡ false)
+  unfolding byRank
+  none-refused =
+      let ts = reduceTests n M order listed extra in
+      let p = or-none (fault ts) (byRank (columnTwice order ∷ [])) (sym (ranked 0 ts (columnTwice order ∷ [])) ∙ z) in
+      (p .0, not-large 14 (repeated order) (p .1))
+
+  pub reduce-asked : Asked (n + n) (count M) order listed extra
+  reduce-asked =
+      asked-of n (count M) order listed extra
+      (least-none (fault (setTests n M)) (fault (listTests n (count M) order listed extra)) (joined-fault (setTests n M) (listTests n (count M) order listed extra) ∙ none-refused .0) .1)
+
+  pub columns-once : Distinct order
+  columns-once = once-of order (none-refused .1)
+
+  -- so there are at most 2n columns, and at most m listed rows
+  pub lengths-within : (length order ≤ n + n) × (length listed ≤ count M)
+  lengths-within = (
+    most-below (n + n) order columns-once (reduce-asked .columns-in),
+    most-below (count M) listed (reduce-asked .once) (λ k i. reduce-asked .rows-in k (in-left k listed extra i)),
+  )
 
 pub finished : (n : ℕ) (order listed extra : List ℕ) (M : Mem) (log : List ℕ) {M′ : Mem} {log′ : List ℕ} (k t : ℕ) → Reduces n order listed extra M log M′ log′ (Done k t)
     → Finished n order listed extra M M′ log′ k t
 finished n order listed extra M log {M′} {log′} k t L =
-    let f = fault (reduceTests n M order listed extra) in
+    let f = reduceFault n M order listed extra in
     let out = outcomeOf n order listed extra M log in
     let d = done-only f (capacity log) out k t (L .answer) in
     let z = d .0 in
@@ -164,10 +186,10 @@ full-only (suc f) room out c e = absurd (let z : _≡_ {A = ℕ} 0 1 = cc in ome
 
 module _ (n : ℕ) (order listed extra : List ℕ) (M : Mem) (log : List ℕ) {M′ : Mem} {log′ : List ℕ} {r : Canonicalized} (L : Reduces n order listed extra M log M′ log′ r) where
   -- the log is full exactly when nothing is refused before the work, and the rule needs more entries than fit
-  pub full-when : (r ≡ Full (capacity log)) ↔ ((fault (reduceTests n M order listed extra) ≡ 0) × (capacity log < length (reduce (bitRow n) (mulRow n) order listed extra (rowsOf n M) .log)))
+  pub full-when : (r ≡ Full (capacity log)) ↔ ((reduceFault n M order listed extra ≡ 0) × (capacity log < length (reduce (bitRow n) (mulRow n) order listed extra (rowsOf n M) .log)))
   full-when = (
     λ e.
-        let d = full-only (fault (reduceTests n M order listed extra)) (capacity log) (outcomeOf n order listed extra M log) (capacity log) (sym e ∙ L .answer) in
+        let d = full-only (reduceFault n M order listed extra) (capacity log) (outcomeOf n order listed extra M log) (capacity log) (sym e ∙ L .answer) in
         (d .0, full-exactly (bitRow n) (mulRow n) order listed extra (rowsOf n M) (capacity log) .0 (d .1)),
     λ h.
         L .answer ∙ ap₂ (λ f o. answerOf f (capacity log) o) (h .0) (log-full (bitRow n) (mulRow n) order listed extra (rowsOf n M) (capacity log) (h .1)),
@@ -195,10 +217,14 @@ module _ (n : ℕ) (order listed extra : List ℕ) (M : Mem) (log : List ℕ) {M
 
 -- ---- the numbers that are tested first: k + 1 is given exactly when its line of the table fits and none before it does
 
-pub canonicalized-refused : (room : ℕ) (out : Reduced Row) (ts : List Bool) (k : ℕ) → (answerOf (fault ts) room out ≡ Refused (suc k)) ↔ First ts k
-canonicalized-refused room out = refused-iff Refused (λ f. answerOf f room out) (λ k. refl) (only out)
-  where
-    only : (o : Reduced Row) (f k : ℕ) → answerOf f room o ≡ Refused (suc k) → f ≡ suc k
-    only (done s) zero k e = let z : _≡_ {A = ℕ} 0 1 = cc in absurd (omega arith)
-    only (full l σ) zero k e = let z : _≡_ {A = ℕ} 0 1 = cc in absurd (omega arith)
-    only o (suc f) k e = cc
+refused-only : (room : ℕ) (o : Reduced Row) (f k : ℕ) → answerOf f room o ≡ Refused (suc k) → f ≡ suc k
+refused-only room (done s) zero k e = let z : _≡_ {A = ℕ} 0 1 = cc in absurd (omega arith)
+refused-only room (full l σ) zero k e = let z : _≡_ {A = ℕ} 0 1 = cc in absurd (omega arith)
+refused-only room o (suc f) k e = cc
+
+pub canonicalized-refused : (room : ℕ) (out : Reduced Row) (ls : List TableLine) (k : ℕ) → (answerOf (byRank ls) room out ≡ Refused (suc k)) ↔ Given (suc k) ls
+canonicalized-refused room out = given-iff Refused (λ f. answerOf f room out) (λ k. refl) (refused-only room out)
+
+-- `canonicalize_all` tests its set alone
+pub canonicalized-all-refused : (room : ℕ) (out : Reduced Row) (ts : List Bool) (k : ℕ) → (answerOf (fault ts) room out ≡ Refused (suc k)) ↔ First ts k
+canonicalized-all-refused room out = refused-iff Refused (λ f. answerOf f room out) (λ k. refl) (refused-only room out)

@@ -1,3 +1,4 @@
+pub mod Ranks
 pub mod Scans
 pub mod Columns
 pub mod InSet

@@ -14,12 +14,15 @@ use lib.ListN.{length, getD, drop, set, replicate, drop-of-length-le}
 use lib.Seq.{drop-cons, getD-set-same, getD-set-other}
 use Rattle.encoding.specs.Refusals.{faultFrom, fault, some, tooLarge}
 use Rattle.encoding.proofs.Scan.{none-of, some-none, some-never}
-use Rattle.encoding.proofs.Faults.{no-test}
-use Rattle.reduction.specs.Lists.{In, has, distinct, every}
+use Rattle.encoding.proofs.Faults.{no-test, or-none, not-large}
+use Rattle.pauli.proofs.Bools.{not-so}
+use Rattle.reduction.specs.Lists.{In, has, Distinct, distinct, every}
 use Rattle.reduction.specs.Demand.{Asked}
-use Rattle.reduction.proofs.Lists.{distinct→, place-of, in-either, same?, →every}
-use Rattle.terms.specs.Refused.{largeNumber, repeated, listTests}
+use Rattle.reduction.proofs.Lists.{distinct→, place-of, in-either, same?, →every, most-below}
+use Rattle.terms.specs.Ranks.{byRank, numbered}
+use Rattle.terms.specs.Refused.{largeNumber, repeated, listTests, columnTwice, listLines}
 use Rattle.terms.specs.Work.{Blank}
+use Rattle.terms.proofs.Ranks.{ranked}
 
 -- ---- a + b or above, without the sum
 
@@ -121,6 +124,14 @@ all-below m l e k i =
     let f : tooLarge m (getD l (p .0) 0) ≡ false = some-none (tooLarge m) 0 l e (p .0) (p .1) in
     subst (λ j. j < m) (sym (p .2)) (leb-false m (getD l (p .0) 0) f)
 
+-- each number once, where the test finds none twice
+pub once-of : (l : List ℕ) → repeated l ≡ false → Distinct l
+once-of l e = distinct→ l (not-false (distinct l) e)
+
+-- a list of numbers below m that is longer than m has one twice: so has an order of more than 2n columns, and a list of more than m rows
+pub too-long : (m : ℕ) (l : List ℕ) → some (tooLarge m) l ≡ false → m < length l → repeated l ≡ true
+too-long m l e h = ap not (not-so (distinct l) (λ d. omega (arith, most-below m l (distinct→ l d) (all-below m l e))))
+
 -- ---- the ladder, and what it leaves
 
 module _ (n m : ℕ) (order listed extra : List ℕ) where
@@ -138,13 +149,25 @@ module _ (n m : ℕ) (order listed extra : List ℕ) where
       let r = none-of (some (tooLarge m) listed) (some (tooLarge m) extra) (o .1) in
       (o .0, r .0, r .1)
 
-  pub fault-6 : largeNumber n m order listed extra ≡ true → 6 ≡ fault (listTests n m order listed extra)
-  unfolding faultFrom
+  pub fault-6 : largeNumber n m order listed extra ≡ true → 6 ≡ byRank (listLines n m order listed extra)
+  unfolding byRank numbered
   fault-6 e = rw e
 
-  pub fault-7 : (b : Bool) → largeNumber n m order listed extra ≡ false → repeated listed ≡ b → cond b 7 0 ≡ fault (listTests n m order listed extra)
-  unfolding faultFrom
-  fault-7 b e f = rw (e, f)
+  pub fault-7 : largeNumber n m order listed extra ≡ false → repeated listed ≡ true → 7 ≡ byRank (listLines n m order listed extra)
+  unfolding byRank numbered
+  fault-7 e f = rw (e, f)
+
+  pub fault-15 : (b : Bool) → largeNumber n m order listed extra ≡ false → repeated listed ≡ false → repeated order ≡ b
+      → cond b 15 0 ≡ byRank (listLines n m order listed extra)
+  unfolding byRank numbered
+  fault-15 b e f g = rw (e, f, g)
+
+  -- no line fits: no test from 1 to 7, and no column twice
+  pub no-line : byRank (listLines n m order listed extra) ≡ 0 → (fault (listTests n m order listed extra) ≡ 0) × (repeated order ≡ false)
+  unfolding byRank
+  no-line e =
+      let p = or-none (fault (listTests n m order listed extra)) (byRank (columnTwice order ∷ [])) (sym (ranked 0 (listTests n m order listed extra) (columnTwice order ∷ [])) ∙ e) in
+      (p .0, not-large 14 (repeated order) (p .1))
 
   -- nothing refused: each listed row once, and all numbers below their limits
   pub asked-of : fault (listTests n m order listed extra) ≡ 0 → Asked (n + n) m order listed extra

@@ -11,7 +11,7 @@ use Rattle.encoding.specs.Refusals.{fault, setTests, leftOr, rowsTests}
 use Rattle.reduction.specs.Rule.{Entry, mulAt}
 use Rattle.reduction.specs.Log.{logged, capacity}
 use Rattle.reduction.specs.Capacity.{Reduced, done, full, capped}
-use Rattle.terms.specs.Refused.{reduceTests}
+use Rattle.terms.specs.Refused.{reduceFault}
 use Rattle.terms.specs.declared.Clashes.{Clashes}
 use Rattle.terms.specs.declared.Clashes.the-variants as clash
 use Rattle.terms.specs.declared.Canonicalized.{Canonicalized}
@@ -29,7 +29,7 @@ pub record Multiplies (n a b : ℕ) (M M′ : Mem) (r : Clashes) : Type 0 where
 
 -- ---- reduction with a log
 
--- the answers: 1 to 7, refused with that number; 8, full with the capacity; else done, with "the number of entries and t" (RULES 5.7)
+-- the answers: 1 to 7 and 15, refused with that number; 8, full with the capacity; else done, with "the number of entries and t" (RULES 5.7)
 abbrev pub answerOf : ℕ → ℕ → Reduced Row → Canonicalized
 answerOf zero room (done s) = Done (length (s .log)) (s .t)
 answerOf zero room (full l σ) = Full room
@@ -70,7 +70,7 @@ abbrev pub outcomeOf : ℕ → List ℕ → List ℕ → List ℕ → Mem → Li
 outcomeOf n order listed extra M log = capped (bitRow n) (mulRow n) (capacity log) order listed extra (rowsOf n M)
 
 abbrev pub Reduces : ℕ → List ℕ → List ℕ → List ℕ → Mem → List ℕ → Mem → List ℕ → Canonicalized → Type 0
-Reduces n order listed extra M log M′ log′ r = Leaves n (fault (reduceTests n M order listed extra)) (outcomeOf n order listed extra M log) M log M′ log′ r
+Reduces n order listed extra M log M′ log′ r = Leaves n (reduceFault n M order listed extra) (outcomeOf n order listed extra M log) M log M′ log′ r
 
 -- all columns, X of each qubit and then Z; all rows listed, in order; no extra rows
 abbrev pub upTo : ℕ → List ℕ

@@ -1,3 +1,4 @@
+pub mod Ranks
 pub mod Refused
 pub mod Leaves
 pub mod Work

@@ -5,7 +5,7 @@ ghost use lib.ListN.{length};
 ghost use Rattle.encoding.specs.Set.{mem, Sound};
 ghost use Rattle.encoding.specs.Limits.{maxQubits, maxRows};
 ghost use Rattle.encoding.specs.Refusals.{fault, rowsTests};
-ghost use Rattle.terms.specs.Refused.{reduceTests, Reducible};
+ghost use Rattle.terms.specs.Refused.{reduceFault, Reducible};
 ghost use Rattle.terms.specs.Work.{BothIn, ListsIn};
 ghost use Rattle.terms.specs.Calls.{Multiplies, Leaves, outcomeOf, Reduces, wholeOutcome, ReducesAll, upTo};
 use encoding::MAX_ROWS;
@@ -60,7 +60,7 @@ pub fn imul(
     Clashes::Number(rows::imul_unchecked(n, x, z, phases, a, b))
 }
 
-// The first number of the table that fits a set, an order and two lists, or 0. The set's numbers come first, so the lists are looked at within
+// The first line of the table, by rank, that fits a set, an order and two lists, or 0. The set's lines come first, so the lists are looked at within
 // the limits only.
 pub fn reduce_fault(
     n: usize,
@@ -71,7 +71,7 @@ pub fn reduce_fault(
     listed: &[u16],
     extra: &[u16],
 ) -> u8
-    ensures { λ r. ⌜ r ≡ fault (reduceTests n (mem (now (x .entry)) (now (z .entry)) (now (phases .entry))) (now (order .entry)) (now (listed .entry)) (now (extra .entry))) ⌝ }
+    ensures { λ r. ⌜ r ≡ reduceFault n (mem (now (x .entry)) (now (z .entry)) (now (phases .entry))) (now (order .entry)) (now (listed .entry)) (now (extra .entry)) ⌝ }
     ensures passed { λ r. ⌜ (r ≡ 0 → Reducible n (now (order .entry)) (now (listed .entry)) (now (extra .entry)) (mem (now (x .entry)) (now (z .entry)) (now (phases .entry)))) ⌝ }
 {
     let f = encoding::set_fault(n, x, z, phases);

@@ -1,12 +1,14 @@
-// Refusals 6 and 7 of an order and two lists.
+// Refusals 6, 7 and 15 of an order and two lists.
 ghost use mathlib.Core.Path.{_≡_};
 ghost use mathlib.Core.Bool.{false};
 ghost use Prim.Native.Nat.{_+_, _≤_};
 ghost use lib.ListN.{length};
-ghost use Rattle.encoding.specs.Limits.{maxRows};
-ghost use Rattle.encoding.specs.Refusals.{fault, some, tooLarge};
-ghost use Rattle.terms.specs.Refused.{repeated as hasRepeat, listTests};
+ghost use Rattle.encoding.specs.Limits.{maxQubits, maxRows};
+ghost use Rattle.encoding.specs.Refusals.{some, tooLarge};
+ghost use Rattle.terms.specs.Ranks.{byRank};
+ghost use Rattle.terms.specs.Refused.{repeated as hasRepeat, listLines};
 ghost use Rattle.terms.specs.Work.{Blank};
+use crate::MAX_COLUMNS;
 use encoding::MAX_ROWS;
 
 // Whether k is a + b or above; the sum itself need not fit.
@@ -44,8 +46,9 @@ fn repeated(list: &[u16], marks: &mut [u8]) -> bool
     requires { ⌜ Blank (now marks) ⌝ }
     ensures { λ r. ⌜ r ≡ hasRepeat (now (list .entry)) ⌝ }
 {
+    let end = list.len();
     let mut i = 0;
-    while i < list.len() {
+    while i < end {
         let k = list[i] as usize;
         if marks[k] != NONE {
             return true;
@@ -65,10 +68,19 @@ fn row_repeated(listed: &[u16]) -> bool
     repeated(listed, &mut marks)
 }
 
-// The first number of the table that fits an order and two lists of m rows of n qubits, or 0.
+// The same of columns.
+fn column_repeated(order: &[u16]) -> bool
+    requires { ⌜ some (tooLarge (maxQubits + maxQubits)) (now order) ≡ false ⌝ }
+    ensures { λ r. ⌜ r ≡ hasRepeat (now (order .entry)) ⌝ }
+{
+    let mut marks = [NONE; MAX_COLUMNS];
+    repeated(order, &mut marks)
+}
+
+// The first line of the table, by rank, that fits an order and two lists of m rows of n qubits, or 0.
 pub(crate) fn lists_fault(n: usize, m: usize, order: &[u16], listed: &[u16], extra: &[u16]) -> u8
-    requires { ⌜ m ≤ maxRows ⌝ }
-    ensures { λ r. ⌜ r ≡ fault (listTests n m (now (order .entry)) (now (listed .entry)) (now (extra .entry))) ⌝ }
+    requires { ⌜ (n ≤ maxQubits) × (m ≤ maxRows) ⌝ }
+    ensures { λ r. ⌜ r ≡ byRank (listLines n m (now (order .entry)) (now (listed .entry)) (now (extra .entry))) ⌝ }
 {
     let a = too_large(order, n, n);
     let b = too_large(listed, m, 0);
@@ -78,6 +90,9 @@ pub(crate) fn lists_fault(n: usize, m: usize, order: &[u16], listed: &[u16], ext
     }
     if row_repeated(listed) {
         return 7;
+    }
+    if column_repeated(order) {
+        return 15;
     }
     0
 }

@@ -15,7 +15,8 @@ lists-fault-requires : tie.Need-lists-fault-requires
 lists-fault-requires c κs =
     let a = c .before .before .before .before .before .before .before .before .args in
     let f = c .before .set-fault .ensures in
-    sound-of (a .n) (mem (a .x .now) (a .z .now) (a .phases .now)) (f .0) (f .1) (c .if1 .left) .few-rows
+    let s = sound-of (a .n) (mem (a .x .now) (a .z .now) (a .phases .now)) (f .0) (f .1) (c .if1 .left) in
+    (s .few-qubits, s .few-rows)
 
 returns-2 : tie.Need-returns-2
 returns-2 c =

@@ -9,10 +9,10 @@ use Rattle.terms.proofs.lists.repeated.Statement.{statement}
 use Rattle.terms.proofs.lists.repeated.Tie as tie
 
 abbrev Inv-loop : tie.InvT-loop
-Inv-loop list marks₀ i₀ marks i = (i ≤ length list) × (length marks ≡ length marks₀) × Marking list i marks
+Inv-loop list marks₀ end i₀ marks i = (i ≤ length list) × (length marks ≡ length marks₀) × Marking list i marks
 
 abbrev μ-loop : tie.MeasureT-loop
-μ-loop list marks₀ i₀ marks i = length list - i
+μ-loop list marks₀ end i₀ marks i = length list - i
 
 loop-holds : tie.Need-loop-holds Inv-loop μ-loop
 loop-holds c = (omega arith, refl, marking-start (c .args .list .now) (c .args .marks .now) (c .pre .1))
