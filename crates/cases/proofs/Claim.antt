@@ -12,6 +12,7 @@ use Rattle.reduction.specs.Rule.{mulAt, multiply, counted, first, clear, pivot,
 use Rattle.reduction.specs.Replay.{replay}
 use Rattle.reduction.specs.Log.{units, logged}
 use Rattle.reduction.specs.Capacity.{capped}
+use Rattle.terms.specs.Ranks.{byRank, numbered}
 use Rattle.mat_elem.specs.Terms.{fallsAfter}
 use Rattle.mat_elem.specs.Sums.{sumOver}
 use Rattle.mat_elem_whole.specs.Sums as whole
@@ -20,7 +21,7 @@ use Rattle.mat_elem_float.specs.Sums.{overflows}
 use Rattle.cases.specs.Table.{Table}
 
 pub p1-to-p12 : Table
-unfolding padMul mulRow bitOf commute holding countOf word unpack bits unbits join pack layRows rowsIn list layIn faultFrom joined some someBelow badBits badPhases countIn commutesWith has distinct mulAt multiply counted first clear pivot columnBy column columns reduce replay units logged capped fallsAfter sumOver whole.elementOf float.elementOf overflows add neg
+unfolding padMul mulRow bitOf commute holding countOf word unpack bits unbits join pack layRows rowsIn list layIn faultFrom byRank numbered joined some someBelow badBits badPhases countIn commutesWith has distinct mulAt multiply counted first clear pivot columnBy column columns reduce replay units logged capped fallsAfter sumOver whole.elementOf float.elementOf overflows add neg
 p1-to-p12 =
     record {
       p1 = record { answer = refl; rows = refl; numbers = refl };

@@ -2,21 +2,21 @@
 -- that the contract leaves no choice. Assumes nothing.
 use mathlib.Core.Path.{_≡_, refl, sym, ap, _∙_, subst}
 use mathlib.Core.Logic.{_↔_, _⊎_, ⊎-elim}
-use mathlib.Core.Bool.{Bool, false, cond}
+use mathlib.Core.Bool.{false, cond}
 use mathlib.Core.List.{List, [], _∷_, _++_}
 use mathlib.Core.Option.{Option, none, some}
 use Prim.Native.Nat.{ℕ, zero, suc, _+_, _≤_, _<_}
 use native.Mathlib.Omega.{arith}
 use borrow.Author.Tests.{ne-eqb}
 use lib.Dec.{eqb}
+use lib.ListN.{length}
 use Rattle.pauli.specs.Row.{Row, mulRow, bitRow, sameRow}
 use Rattle.encoding.specs.Limits.{wordsOf}
 use Rattle.encoding.specs.Set.{Mem, count, rowsIn, rowsOf, lay, Valid}
-use Rattle.encoding.specs.Refusals.{fault, leftOr}
-use Rattle.encoding.proofs.Faults.{First, refused-iff}
+use Rattle.encoding.specs.Refusals.{leftOr}
 use Rattle.encoding.proofs.Memory.{lay-back}
 use Rattle.encoding.proofs.Sets.{same-words, same-bytes}
-use Rattle.reduction.specs.Lists.{In, All}
+use Rattle.reduction.specs.Lists.{In, Distinct, All}
 use Rattle.reduction.specs.Rule.{Entry, mulAt}
 use Rattle.reduction.specs.Log.{pairs}
 use Rattle.reduction.specs.Replay.{replay}
@@ -29,6 +29,9 @@ use Rattle.reduction.proofs.Lists.{in-left}
 use Rattle.reduction.proofs.Entries.{BadAt}
 use Rattle.reduction.proofs.Checker.{DiffersAt}
 use Rattle.reduction.proofs.PauliRows.{rows-laws, rows-tell}
+use Rattle.terms.specs.Ranks.{TableLine, byRank}
+use Rattle.terms.proofs.Ranks.{Given, given-iff}
+use Rattle.terms.proofs.Whole.{every-once}
 use Rattle.replay.specs.Check.{Task, Claim, Passed, Checked, checkFault, verdictOn, workingFor, given, givenOr}
 use Rattle.replay.specs.Demand.{RightClaim, EveryColumn, NoPhaseAtStart}
 use Rattle.replay.specs.declared.Verdict.{Verdict}
@@ -86,6 +89,14 @@ module _ {T : Task} {L : Claim} {r : Verdict} {left : Mem} (c : Checked T L r le
     λ e. let y = on-verdict accepted e in (y .0, right-iff (y .0) .0 (y .1)),
     λ h. c .answer ∙ ap (λ k. givenOr k (verdictOn T L)) (h .0) ∙ ap given (right-iff (h .0) .1 (h .1)),
   )
+
+  -- What is accepted has an order without repeats, since nothing was refused;
+  pub yes-once : r ≡ Yes → Distinct (T .order)
+  yes-once e = c .passed (yes-exactly .0 e .0) .of-task .columns-once
+
+  -- where it names every column, it is a list of all 2n of them.
+  pub yes-every : r ≡ Yes → EveryColumn T → length (T .order) ≡ T .n + T .n
+  yes-every e every = every-once (T .n + T .n) (T .order) every (yes-once e) (c .passed (yes-exactly .0 e .0) .of-task .asked .columns-in)
 
   -- The other verdicts: the first bad entry; else the first row in which the full replay and the claim differ; else all is right but the form.
   pub bad-entry-is-first : (i : ℕ) → r ≡ BadEntry i → BadAt (T .listed) (T .extra) 0 i (pairs (L .log))
@@ -164,9 +175,9 @@ module _ {T : Task} {A B : Claim} {left left′ : Mem} (c : Checked T A Yes left
 
 -- ---- refusals: the number k + 1 is given exactly when its line of the table fits and none before it does
 
-pub verdict-refused : (v : checker.Verdict) (ts : List Bool) (k : ℕ) → (givenOr (fault ts) v ≡ Refused (suc k)) ↔ First ts k
+pub verdict-refused : (v : checker.Verdict) (ls : List TableLine) (k : ℕ) → (givenOr (byRank ls) v ≡ Refused (suc k)) ↔ Given (suc k) ls
 unfolding back
-verdict-refused v = refused-iff Refused (λ f. givenOr f v) (λ k. refl) only
+verdict-refused v = given-iff Refused (λ f. givenOr f v) (λ k. refl) only
   where
     only : (f k : ℕ) → givenOr f v ≡ Refused (suc k) → f ≡ suc k
     only zero k e = absurd (let p : none ≡ some v = sym (ap back e) ∙ back-given v in let z : _≡_ {A = ℕ} 0 1 = cc in omega arith)

@@ -5,16 +5,17 @@ use Prim.Native.Nat.{ℕ}
 use Rattle.pauli.specs.Row.{padMul, mulRow, bitOf, sameQubits}
 use Rattle.encoding.specs.Words.{word, unpack, join, pack, layRows}
 use Rattle.encoding.specs.Set.{Mem, mem, rowsIn, list, layIn}
-use Rattle.encoding.specs.Refusals.{faultFrom, joined, some, someBelow, badBits, badPhases, leftOr}
+use Rattle.encoding.specs.Refusals.{joined, some, someBelow, badBits, badPhases, leftOr}
 use Rattle.reduction.specs.Lists.{All, has, distinct, every}
 use Rattle.reduction.specs.Rule.{mulAt}
 use Rattle.reduction.specs.Replay.{replay}
 use Rattle.reduction.specs.Log.{pairs}
 use Rattle.reduction.specs.Form.{zeroIn, onlyIn, reducedFrom, reduced}
 use Rattle.reduction.specs.Checker.{good, firstBad, firstDiff, verdictBy, verdict, working, workingBy}
+use Rattle.terms.specs.Ranks.{byRank, numbered}
 use Rattle.replay.specs.Check.{Task, task, Claim, claim, checkFault, givenOr, verdictOn, workingFor}
 use Rattle.replay.specs.declared.Verdict.{Verdict}
-use Rattle.replay.specs.declared.Verdict.the-variants.{BadEntry, Differs, NotReduced, Yes}
+use Rattle.replay.specs.declared.Verdict.the-variants.{BadEntry, Differs, NotReduced, Yes, Refused}
 
 -- a line and its answer
 pub record Line : Type 0 where
@@ -65,8 +66,9 @@ lines =
     ∷ record { given = two (0 ∷ []); claimed = claim (0 ∷ 1 ∷ []) (two-rows (1 ∷ 1 ∷ []) (3 ∷ 0 ∷ [])); says = Yes; left = two-rows (1 ∷ 1 ∷ []) (3 ∷ 0 ∷ []) }
     ∷ record { given = two (0 ∷ 1 ∷ []); claimed = claim [] (two-rows (0 ∷ 1 ∷ []) (0 ∷ 0 ∷ [])); says = Yes; left = two-rows (0 ∷ 1 ∷ []) (0 ∷ 0 ∷ []) }
     ∷ record { given = two (0 ∷ 1 ∷ []); claimed = claim (0 ∷ 1 ∷ 1 ∷ 0 ∷ 0 ∷ 1 ∷ 0 ∷ 1 ∷ 1 ∷ 0 ∷ 0 ∷ 1 ∷ []) (two-rows (0 ∷ 1 ∷ []) (2 ∷ 2 ∷ [])); says = Yes; left = two-rows (0 ∷ 1 ∷ []) (2 ∷ 2 ∷ []) }
+    ∷ record { given = two (0 ∷ 0 ∷ []); claimed = claim (0 ∷ []) (two-rows (0 ∷ 1 ∷ []) (0 ∷ 0 ∷ [])); says = Refused 15; left = two-rows (0 ∷ 1 ∷ []) (0 ∷ 0 ∷ []) }
     ∷ []
 
 pub page : All Answered lines
-unfolding padMul mulRow bitOf sameQubits word unpack join pack layRows rowsIn list layIn faultFrom joined some someBelow badBits badPhases has distinct every mulAt replay pairs zeroIn onlyIn reducedFrom reduced good firstBad firstDiff verdictBy verdict working workingBy
-page = ((refl, refl), ((refl, refl), ((refl, refl), ((refl, refl), ((refl, refl), ((refl, refl), ((refl, refl), ((refl, refl), ((refl, refl), tt)))))))))
+unfolding padMul mulRow bitOf sameQubits word unpack join pack layRows rowsIn list layIn byRank numbered joined some someBelow badBits badPhases has distinct every mulAt replay pairs zeroIn onlyIn reducedFrom reduced good firstBad firstDiff verdictBy verdict working workingBy
+page = ((refl, refl), ((refl, refl), ((refl, refl), ((refl, refl), ((refl, refl), ((refl, refl), ((refl, refl), ((refl, refl), ((refl, refl), ((refl, refl), tt))))))))))

@@ -1,52 +1,106 @@
--- The refusals of a check: the first number of its parts, and what nothing refused leaves. Assumes nothing.
+-- The refusals of a check: the first line of its parts by rank, and what nothing refused leaves. 15 comes last of what `reduce_fault` gives, so that the
+-- smaller of its number and the claim's is the earlier. Assumes nothing.
 use mathlib.Core.Path.{_≡_, refl, sym, ap, ap₂, _∙_}
-use mathlib.Core.Bool.{Bool, true, false, cond, not, _||_}
-use Prim.Native.Nat.{ℕ, zero, suc}
-use lib.Dec.{eqb}
+use mathlib.Core.Bool.{Bool, true, false, cond, not}
+use mathlib.Core.List.{List, [], _∷_}
+use Prim.Native.Nat.{ℕ, zero, suc, _+_, _≤_}
+use native.Mathlib.Nat.{suc-ne-zero}
+use native.Mathlib.Omega.{arith}
+use borrow.Author.Tests.{ne-eqb}
+use lib.Dec.{eqb, ltb}
 use lib.ListN.{length}
 use Rattle.encoding.specs.Limits.{wordsOf}
 use Rattle.encoding.specs.Words.{odd}
 use Rattle.encoding.specs.Set.{Mem, count, Valid}
 use Rattle.encoding.specs.Refusals.{faultFrom, fault, joined, least, setTests, leftOr, differentRows}
-use Rattle.encoding.proofs.Faults.{joined-fault, both-parts, least-none, same-rows, kept}
-use Rattle.terms.specs.Refused.{reduceTests}
-use Rattle.replay.specs.Check.{Task, Claim, logTests, claimTests, checkFault, TaskPassed, ClaimPassed, Passed, givenOr, verdictOn, workingFor, Checked}
+use Rattle.encoding.proofs.Faults.{joined-fault, both-parts, least-none, least-more, orElse, or-none, different-is, same-rows, kept}
+use Rattle.terms.specs.Ranks.{TableLine, line, byRank}
+use Rattle.terms.specs.Refused.{repeated, reduceTests, columnTwice, reduceFault}
+use Rattle.terms.proofs.Ranks.{ranked}
+use Rattle.replay.specs.Check.{Task, Claim, claimTests, checkTests, oddLog, checkFault, TaskPassed, ClaimPassed, Passed, givenOr, verdictOn, workingFor, Checked}
 use Rattle.replay.specs.Steps.{Judged}
 use Rattle.replay.specs.declared.Verdict.{Verdict}
 use Rattle.replay.specs.declared.Verdict.the-variants.{Refused}
 
--- ---- the number of each part
+-- ---- the claimed rows
 
-or-false : (b : Bool) → b ≡ (b || false)
-or-false true = refl
-or-false false = refl
+module _ (n m : ℕ) (C : Mem) {a b f : ℕ} (pa : a ≡ fault (setTests n C)) (pb : b ≡ cond (not (eqb (count C) m)) 3 0) (e : f ≡ least a b) where
+  pub claim-number : f ≡ fault (claimTests n m C)
+  claim-number = both-parts (setTests n C) (differentRows m (count C)) pa (pb ∙ different-is m (count C)) e
 
-pub fit-number : (m k units : ℕ) {x y : ℕ} → y ≡ cond (odd units) 9 0 → x ≡ cond (not (eqb k m)) 3 y → x ≡ fault (joined (differentRows m k) (logTests units))
-unfolding faultFrom joined
-fit-number m k units e f = f ∙ ap₂ (λ s t. cond s 3 t) (or-false (not (eqb k m))) e
-
--- sets of the same m
-same-m : (m k units : ℕ) → fault (joined (differentRows m k) (logTests units)) ≡ 0 → k ≡ m
-same-m m k units e = same-rows m k (least-none _ _ (joined-fault (differentRows m k) (logTests units) ∙ e) .0)
-
-module _ (n m : ℕ) (L : Claim) {a b f : ℕ} (pa : a ≡ fault (setTests n (L .rows))) (pb : b ≡ fault (joined (differentRows m (count (L .rows))) (logTests (length (L .log))))) (e : f ≡ least a b) where
-  pub claim-number : f ≡ fault (claimTests n m L)
-  claim-number = both-parts (setTests n (L .rows)) (joined (differentRows m (count (L .rows))) (logTests (length (L .log)))) pa pb e
-
-  pub claim-passed : (a ≡ 0 → Valid n (wordsOf n) (L .rows)) → f ≡ 0 → ClaimPassed n m (L .rows)
+  pub claim-passed : (a ≡ 0 → Valid n (wordsOf n) C) → f ≡ 0 → ClaimPassed n m C
   claim-passed valid z =
       let s = least-none a b (sym e ∙ z) in
-      record { claimed-set = valid (s .0); as-many = same-m m (count (L .rows)) (length (L .log)) (sym pb ∙ s .1) }
+      record { claimed-set = valid (s .0); as-many = same-rows m (count C) (sym (different-is m (count C)) ∙ sym pb ∙ s .1) }
+
+-- ---- one after the other
+
+pub log-number : (s units : ℕ) {x y : ℕ} → y ≡ cond (odd units) 9 0 → x ≡ cond (not (eqb s 0)) s y → x ≡ byRank (line s (not (eqb s 0)) ∷ oddLog units ∷ [])
+unfolding byRank
+log-number s units ey ex = ex ∙ ap (cond (not (eqb s 0)) s) ey
+
+-- a number, or else the lines below it
+first-of : (s : ℕ) (ls : List TableLine) → byRank (line s (not (eqb s 0)) ∷ ls) ≡ orElse s (byRank ls)
+unfolding byRank
+first-of zero ls = refl
+first-of (suc s) ls = ap (λ b. cond (not b) (suc s) (byRank ls)) (ne-eqb (suc s) 0 (λ z. suc-ne-zero s z))
+
+fault-small : (k : ℕ) (ts : List Bool) → faultFrom (suc k) ts ≤ k + length ts
+unfolding faultFrom
+fault-small k [] = omega arith
+fault-small k (true ∷ ts) = omega arith
+fault-small k (false ∷ ts) = omega (arith, fault-small (suc k) ts)
+
+claim-small : (n m : ℕ) (C : Mem) → fault (claimTests n m C) ≤ 14
+unfolding joined
+claim-small n m C = omega (arith, fault-small 0 (claimTests n m C))
+
+-- 15 is above every number of the claim
+above : (a b : ℕ) (r : Bool) → b ≤ 14 → least (orElse a (cond r 15 0)) b ≡ orElse (least a b) (cond r 15 0)
+unfolding least
+above zero zero true h = refl
+above zero zero false h = refl
+above zero (suc b) true h = sym (least-more 15 (suc b) (λ z. suc-ne-zero 14 z) (λ z. suc-ne-zero b z) (omega arith))
+above zero (suc b) false h = refl
+above (suc a) zero r h = refl
+above (suc a) (suc b) r h = either (ltb (suc a) (suc b))
+  where
+    either : (t : Bool) → cond t (suc a) (suc b) ≡ orElse (cond t (suc a) (suc b)) (cond r 15 0)
+    either true = refl
+    either false = refl
+
+in-turn : (f : ℕ) (r : Bool) (o : ℕ) → orElse (orElse f (cond r 15 0)) o ≡ orElse f (cond r 15 o)
+in-turn zero true o = refl
+in-turn zero false o = refl
+in-turn (suc f) r o = refl
 
 -- ---- the call
 
-module _ (T : Task) (L : Claim) {a b f : ℕ} (pa : a ≡ fault (reduceTests (T .n) (T .start) (T .order) (T .listed) (T .extra))) (pb : b ≡ fault (claimTests (T .n) (count (T .start)) L)) (e : f ≡ least a b) where
+module _ (T : Task) (L : Claim) {a b s f : ℕ} (pa : a ≡ reduceFault (T .n) (T .start) (T .order) (T .listed) (T .extra)) (pb : b ≡ fault (claimTests (T .n) (count (T .start)) (L .rows)))
+    (e : s ≡ least a b) (ef : f ≡ byRank (line s (not (eqb s 0)) ∷ oddLog (length (L .log)) ∷ [])) where
+  before-log : s ≡ orElse (fault (checkTests T L)) (cond (repeated (T .order)) 15 0)
+  unfolding byRank
+  before-log =
+      let ts = reduceTests (T .n) (T .start) (T .order) (T .listed) (T .extra) in
+      let us = claimTests (T .n) (count (T .start)) (L .rows) in
+      e ∙ ap₂ least (pa ∙ ranked 0 ts (columnTwice (T .order) ∷ [])) pb
+      ∙ above (fault ts) (fault us) (repeated (T .order)) (claim-small (T .n) (count (T .start)) (L .rows))
+      ∙ ap (λ k. orElse k (cond (repeated (T .order)) 15 0)) (joined-fault ts us)
+
   pub check-number : f ≡ checkFault T L
-  check-number = both-parts (reduceTests (T .n) (T .start) (T .order) (T .listed) (T .extra)) (claimTests (T .n) (count (T .start)) L) pa pb e
+  unfolding byRank
+  check-number =
+      ef ∙ first-of s (oddLog (length (L .log)) ∷ [])
+      ∙ ap (λ k. orElse k (byRank (oddLog (length (L .log)) ∷ []))) before-log
+      ∙ in-turn (fault (checkTests T L)) (repeated (T .order)) (byRank (oddLog (length (L .log)) ∷ []))
+      ∙ sym (ranked 0 (checkTests T L) (columnTwice (T .order) ∷ oddLog (length (L .log)) ∷ []))
 
   module _ (ta : a ≡ 0 → TaskPassed T) (tb : b ≡ 0 → ClaimPassed (T .n) (count (T .start)) (L .rows)) where
     pub check-passed : f ≡ 0 → Passed T (L .rows)
-    check-passed z = let s = least-none a b (sym e ∙ z) in record { of-task = ta (s .0); of-claim = tb (s .1) }
+    check-passed z =
+        let none = or-none s (byRank (oddLog (length (L .log)) ∷ [])) (sym (first-of s (oddLog (length (L .log)) ∷ [])) ∙ sym ef ∙ z) in
+        let p = least-none a b (sym e ∙ none .0) in
+        record { of-task = ta (p .0); of-claim = tb (p .1) }
 
     -- refused: nothing is changed
     pub refusing : (f ≡ 0 → ⊥) → Checked T L (Refused f) (T .start)

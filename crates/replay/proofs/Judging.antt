@@ -170,6 +170,7 @@ module _ (T : Task) (L : Claim) (s : Passed T (L .rows)) {b : ℕ} (e : placeOf 
                 record {
                   sound = after .sound;
                   asked = subst (λ k. Asked (T .n + T .n) k (T .order) (T .listed) (T .extra)) (sym (after .many)) (s .of-task .asked);
+                  columns-once = s .of-task .columns-once;
                 };
             of-claim = record { claimed-set = s .of-claim .claimed-set; as-many = s .of-claim .as-many ∙ sym (after .many) };
           }

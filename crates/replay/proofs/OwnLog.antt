@@ -1,18 +1,19 @@
 -- Demand 3, of the two calls' contracts: what `canonicalize` leaves when it is done, handed to the checker from the same start with the log cut to its
 -- entry count, gets yes. And after any yes the working rows are, word for word and byte for byte, the claimed ones. Assumes nothing.
 use mathlib.Core.Path.{_≡_, refl, sym, ap, ap₂, _∙_, subst}
-use mathlib.Core.Bool.{Bool, cond}
+use mathlib.Core.Bool.{Bool, false, cond}
 use mathlib.Core.Option.{some}
-use mathlib.Core.List.{List, []}
+use mathlib.Core.List.{List, [], _∷_}
 use Prim.Native.Nat.{ℕ, zero, suc, _+_, _*_, _%_, _≤_, _<_}
 use native.Mathlib.Omega.{arith}
 use borrow.Author.Tests.{eq-eqb, ne-eqb}
 use lib.ListN.{length, take, length-take}
 use Rattle.pauli.specs.Row.{Row, mulRow, bitRow, sameRow}
 use Rattle.encoding.specs.Limits.{wordsOf}
+use Rattle.encoding.specs.Words.{odd}
 use Rattle.encoding.specs.Set.{Mem, count, rowsIn, rowsOf, lay, Valid}
 use Rattle.encoding.specs.Refusals.{faultFrom, fault, joined, least, setTests, leftOr, differentRows}
-use Rattle.encoding.proofs.Faults.{joined-fault, least-none}
+use Rattle.encoding.proofs.Faults.{joined-fault, least-none, orElse}
 use Rattle.encoding.proofs.Memory.{Proper, mem-eq, within-limits, count-lay, read-lay, valid-lay}
 use Rattle.encoding.proofs.Sets.{same-words, same-bytes, read-proper, set-passes}
 use Rattle.reduction.specs.Rule.{Run, reduce}
@@ -24,12 +25,14 @@ use Rattle.reduction.proofs.Log.{length-pairs}
 use Rattle.reduction.proofs.Entries.{none-bad}
 use Rattle.reduction.proofs.Theorems as theorems
 use Rattle.reduction.proofs.PauliRows.{rows-laws, rows-tell}
-use Rattle.terms.specs.Refused.{listTests, reduceTests}
+use Rattle.terms.specs.Ranks.{byRank}
+use Rattle.terms.specs.Refused.{listTests, reduceTests, columnTwice}
 use Rattle.terms.specs.Calls.{upTo, Reduces, ReducesAll}
 use Rattle.terms.specs.declared.Canonicalized.the-variants.{Done}
-use Rattle.terms.proofs.Finished.{Finished, finished, proper-replay, proper-set}
+use Rattle.terms.proofs.Ranks.{ranked}
+use Rattle.terms.proofs.Finished.{Finished, finished, none-refused, proper-replay, proper-set}
 use Rattle.terms.proofs.Whole.{whole-is, whole-names}
-use Rattle.replay.specs.Check.{Task, task, Claim, claim, logTests, claimTests, checkFault, givenOr, verdictOn, workingFor, Checked}
+use Rattle.replay.specs.Check.{Task, task, Claim, claim, claimTests, checkTests, oddLog, checkFault, givenOr, verdictOn, workingFor, Checked}
 use Rattle.replay.specs.Demand.{EveryColumn}
 use Rattle.replay.specs.declared.Verdict.{Verdict}
 use Rattle.replay.specs.declared.Verdict.the-variants.{Yes}
@@ -74,9 +77,8 @@ counts-pass : {m k : ℕ} → k ≡ m → fault (differentRows m k) ≡ 0
 unfolding faultFrom
 counts-pass {m} {k} e = simp (eq-eqb k m e)
 
-log-passes : (k units : ℕ) → units ≡ 2 * k → fault (logTests units) ≡ 0
-unfolding faultFrom
-log-passes k units e = simp (ne-eqb (units % 2) 1 (λ o. omega arith))
+log-passes : (k units : ℕ) → units ≡ 2 * k → odd units ≡ false
+log-passes k units e = ne-eqb (units % 2) 1 (λ o. omega arith)
 
 -- the first differing row goes by the claimed rows below m
 claimed-same : {R : Type 0} (alike : R → R → Bool) (σ τ τ′ : ℕ → R) (m i : ℕ) → ((k : ℕ) → k < i + m → τ k ≡ τ′ k) → firstDiff alike σ τ i m ≡ firstDiff alike σ τ′ i m
@@ -94,7 +96,9 @@ module _ (T : Task) {M′ : Mem} {log′ : List ℕ} {k t : ℕ} (F : Finished (
   wide = omega arith
 
   start-passed : fault (setTests (T .n) (T .start)) ≡ 0
-  start-passed = least-none _ _ (joined-fault (setTests (T .n) (T .start)) (listTests (T .n) (count (T .start)) (T .order) (T .listed) (T .extra)) ∙ F .no-fault) .0
+  start-passed =
+      least-none _ _ (joined-fault (setTests (T .n) (T .start)) (listTests (T .n) (count (T .start)) (T .order) (T .listed) (T .extra))
+      ∙ none-refused (T .n) (T .start) (T .order) (T .listed) (T .extra) (F .no-fault) .0) .0
 
   proper : Proper (T .n) (count (T .start)) (run .rows)
   unfolding run
@@ -115,15 +119,19 @@ module _ (T : Task) {M′ : Mem} {log′ : List ℕ} {k t : ℕ} (F : Finished (
   whole-entries = omega (arith, length-take (2 * k) log′, length-pairs (take (2 * k) log′), ap length cut, F .entries)
 
   pub own-passes : checkFault T (claim (take (2 * k) log′) M′) ≡ 0
-  unfolding run
+  unfolding run byRank
   own-passes =
       let n = T .n in
       let m = count (T .start) in
       let l = within-limits n (T .start) start-passed in
       let v : Valid n (wordsOf n) M′ = subst (Valid n (wordsOf n)) (sym (F .laid-out)) (valid-lay n (wordsOf n) m (run .rows) wide proper) in
-      none-both (reduceTests n (T .start) (T .order) (T .listed) (T .extra)) (claimTests n m (claim (take (2 * k) log′) M′)) (F .no-fault)
-      (none-both (setTests n M′) (joined (differentRows m (count M′)) (logTests (length (take (2 * k) log′)))) (set-passes n M′ (record { valid = v; few-qubits = l .0; few-rows = omega (arith, F .as-many) }))
-      (none-both (differentRows m (count M′)) (logTests (length (take (2 * k) log′))) (counts-pass (F .as-many)) (log-passes k (length (take (2 * k) log′)) whole-entries)))
+      let own = claim (take (2 * k) log′) M′ in
+      let no = none-refused n (T .start) (T .order) (T .listed) (T .extra) (F .no-fault) in
+      ranked 0 (checkTests T own) (columnTwice (T .order) ∷ oddLog (length (take (2 * k) log′)) ∷ [])
+      ∙ ap₂ orElse
+      (none-both (reduceTests n (T .start) (T .order) (T .listed) (T .extra)) (claimTests n m M′) (no .0)
+      (none-both (setTests n M′) (differentRows m (count M′)) (set-passes n M′ (record { valid = v; few-qubits = l .0; few-rows = omega (arith, F .as-many) })) (counts-pass (F .as-many))))
+      (ap₂ (λ r o. cond r 15 (cond o 9 0)) (no .1) (log-passes k (length (take (2 * k) log′)) whole-entries))
 
   pub own-accepted : verdictOn T (claim (take (2 * k) log′) M′) ≡ accepted
   unfolding run verdict

@@ -9,12 +9,13 @@ use Rattle.pauli.specs.declared.PauliMatrix.the-variants.{I, Z}
 use Rattle.pauli.specs.Row.{Row, padMul, mulRow, bitOf, sameQubits}
 use Rattle.encoding.specs.Words.{word, unpack, join, pack, layRows}
 use Rattle.encoding.specs.Set.{Mem, mem, rowsIn, rowsOf, list, layIn}
-use Rattle.encoding.specs.Refusals.{faultFrom, joined, some, someBelow, badBits, badPhases, leftOr}
+use Rattle.encoding.specs.Refusals.{joined, some, someBelow, badBits, badPhases, leftOr}
 use Rattle.reduction.specs.Lists.{In, All, has, distinct, every}
 use Rattle.reduction.specs.Replay.{replay, productOf}
 use Rattle.reduction.specs.Log.{pairs}
 use Rattle.reduction.specs.Form.{zeroIn, onlyIn, reducedFrom, reduced}
 use Rattle.reduction.specs.Checker.{firstBad, firstDiff, verdictBy, verdict, working, workingBy}
+use Rattle.terms.specs.Ranks.{byRank, numbered}
 use Rattle.replay.specs.Check.{Task, task, claim}
 use Rattle.replay.specs.Demand.{NoPhaseAtStart, EveryColumn}
 use Rattle.replay.specs.declared.Verdict.the-variants.{Yes}
@@ -28,7 +29,7 @@ one-row = task 1 start (0 ∷ 1 ∷ []) (0 ∷ []) []
 
 -- the checker says yes to it, and leaves it as it was
 pub accepted : Answered (record { given = one-row; claimed = claim [] start; says = Yes; left = start })
-unfolding padMul mulRow bitOf sameQubits word unpack join pack layRows rowsIn list layIn faultFrom joined some someBelow badBits badPhases has distinct every replay pairs zeroIn onlyIn reducedFrom reduced firstBad firstDiff verdictBy verdict working workingBy
+unfolding padMul mulRow bitOf sameQubits word unpack join pack layRows rowsIn list layIn byRank numbered joined some someBelow badBits badPhases has distinct every replay pairs zeroIn onlyIn reducedFrom reduced firstBad firstDiff verdictBy verdict working workingBy
 accepted = (refl, refl)
 
 pub every-column : EveryColumn one-row

@@ -1,19 +1,20 @@
 -- RULES 7, "The replay checker", and 9, "Refusals": what a check is given, its refusals, its answer, and the working rows at its end. The
 -- verdict itself stands in reduction's specs/Checker.antt. Assumes nothing.
 use mathlib.Core.Path.{_≡_}
-use mathlib.Core.Bool.{Bool, false}
-use mathlib.Core.List.{List, [], _∷_}
+use mathlib.Core.Bool.{Bool}
+use mathlib.Core.List.{List, [], _∷_, _++_}
 use Prim.Native.Nat.{ℕ, zero, suc}
 use lib.ListN.{length}
 use Rattle.pauli.specs.Row.{mulRow, bitRow, sameRow}
 use Rattle.encoding.specs.Limits.{wordsOf}
 use Rattle.encoding.specs.Words.{odd}
 use Rattle.encoding.specs.Set.{Mem, count, rowsOf, lay, Valid}
-use Rattle.encoding.specs.Refusals.{fault, joined, setTests, differentRows, leftOr}
+use Rattle.encoding.specs.Refusals.{joined, setTests, differentRows, leftOr}
 use Rattle.reduction.specs.Log.{pairs}
 use Rattle.reduction.specs.Checker.{verdict, working, badEntry, differs, notReduced, accepted}
 use Rattle.reduction.specs.Checker as checker
-use Rattle.terms.specs.Refused.{reduceTests, Reducible}
+use Rattle.terms.specs.Ranks.{TableLine, line, byRank, numbered}
+use Rattle.terms.specs.Refused.{reduceTests, columnTwice, Reducible}
 use Rattle.replay.specs.declared.Verdict.{Verdict}
 use Rattle.replay.specs.declared.Verdict.the-variants.{BadEntry, Differs, NotReduced, Yes, Refused}
 
@@ -38,22 +39,27 @@ claim log rows = record { log = log; rows = rows }
 
 -- ---- refusals
 
--- 9: a log of odd length
-abbrev pub logTests : ℕ → List Bool
-logTests units = false ∷ false ∷ false ∷ false ∷ false ∷ false ∷ false ∷ false ∷ odd units ∷ []
-
--- 1 to 5 of the claimed rows, "a set of the same n and m" (RULES 7.8); 9
-abbrev pub claimTests : ℕ → ℕ → Claim → List Bool
-claimTests n m L = joined (setTests n (L .rows)) (joined (differentRows m (count (L .rows))) (logTests (length (L .log))))
+-- 1 to 5 of the claimed rows, "a set of the same n and m" (RULES 7.8)
+abbrev pub claimTests : ℕ → ℕ → Mem → List Bool
+claimTests n m claimed = joined (setTests n claimed) (differentRows m (count claimed))
 
 -- and 1 to 7 of what was to be reduced: the starting rows, the order, the lists
 abbrev pub checkTests : Task → Claim → List Bool
-checkTests T L = joined (reduceTests (T .n) (T .start) (T .order) (T .listed) (T .extra)) (claimTests (T .n) (count (T .start)) L)
+checkTests T L = joined (reduceTests (T .n) (T .start) (T .order) (T .listed) (T .extra)) (claimTests (T .n) (count (T .start)) (L .rows))
+
+-- 9: a log of odd length
+abbrev pub oddLog : ℕ → TableLine
+oddLog units = line 9 (odd units)
+
+-- by rank: 1 to 7, then 15, then 9
+abbrev pub checkLines : Task → Claim → List TableLine
+checkLines T L = numbered 1 (checkTests T L) ++ (columnTwice (T .order) ∷ oddLog (length (L .log)) ∷ [])
 
 abbrev pub checkFault : Task → Claim → ℕ
-checkFault T L = fault (checkTests T L)
+checkFault T L = byRank (checkLines T L)
 
--- What they leave: of what was to be reduced, a row set within the limits, listed rows each once, numbers below their limits;
+-- What they leave: of what was to be reduced, a row set within the limits, listed rows and columns each once, numbers below
+-- their limits;
 abbrev pub TaskPassed : Task → Type 0
 TaskPassed T = Reducible (T .n) (T .order) (T .listed) (T .extra) (T .start)
 

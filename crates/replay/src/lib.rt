@@ -1,10 +1,12 @@
 // The replay checker: it tells anyone whether a claimed result of a reduction is right, from the log that someone made.
 ghost use mathlib.Core.Path.{_≡_};
-ghost use mathlib.Core.List.{[]};
-ghost use lib.ListN.{length};
+ghost use mathlib.Core.Bool.{not};
+ghost use mathlib.Core.List.{[], _∷_};
+ghost use lib.Dec.{eqb};
 ghost use Rattle.encoding.specs.Set.{mem};
-ghost use Rattle.encoding.specs.Refusals.{fault, joined, differentRows};
-ghost use Rattle.replay.specs.Check.{task, claim, logTests, claimTests, ClaimPassed, Passed, given, verdictOn, Checked};
+ghost use Rattle.encoding.specs.Refusals.{fault};
+ghost use Rattle.terms.specs.Ranks.{byRank, line};
+ghost use Rattle.replay.specs.Check.{task, claim, claimTests, oddLog, ClaimPassed, Passed, given, verdictOn, Checked};
 ghost use Rattle.replay.specs.Steps.{Judged};
 use encoding::pick;
 use encoding::set_fault;
@@ -26,23 +28,23 @@ pub enum Verdict {
     Refused(u8),
 }
 
-// 3 for sets of different m, 9 for a log of odd length, or 0.
-fn fit_fault(m: usize, k: usize, units: usize) -> u8
-    ensures { λ r. ⌜ r ≡ fault (joined (differentRows m k) (logTests units)) ⌝ }
-{
-    let a = k != m;
-    let b = units % 2 == 1;
-    pick(a, 3, pick(b, 9, 0))
-}
-
-// The first number of the table that fits what is claimed of m rows of n qubits, or 0.
-fn claim_fault(n: usize, m: usize, log: &[u16], cx: &[u64], cz: &[u64], cphases: &[u8]) -> u8
-    ensures { λ r. ⌜ r ≡ fault (claimTests n m (claim (now (log .entry)) (mem (now (cx .entry)) (now (cz .entry)) (now (cphases .entry))))) ⌝ }
+// The first number of the table that fits rows claimed of m rows of n qubits, or 0.
+fn claim_fault(n: usize, m: usize, cx: &[u64], cz: &[u64], cphases: &[u8]) -> u8
+    ensures { λ r. ⌜ r ≡ fault (claimTests n m (mem (now (cx .entry)) (now (cz .entry)) (now (cphases .entry)))) ⌝ }
     ensures passed { λ r. ⌜ (r ≡ 0 → ClaimPassed n m (mem (now (cx .entry)) (now (cz .entry)) (now (cphases .entry)))) ⌝ }
 {
-    let a = set_fault(n, cx, cz, cphases);
-    let b = fit_fault(m, cphases.len(), log.len());
-    smaller(a, b)
+    let f = set_fault(n, cx, cz, cphases);
+    let other = cphases.len() != m;
+    smaller(f, pick(other, 3, 0))
+}
+
+// What was found before the log is looked at, or else 9 for a log of odd length, or 0.
+fn log_fault(earlier: u8, units: usize) -> u8
+    ensures { λ r. ⌜ r ≡ byRank (line earlier (not (eqb earlier 0)) ∷ oddLog units ∷ []) ⌝ }
+{
+    let found = earlier != 0;
+    let odd = units % 2 == 1;
+    pick(found, earlier, pick(odd, 9, 0))
 }
 
 // The verdict on rows that were replayed: the first that differs from what is claimed, else whether they are in reduced form.
@@ -119,8 +121,8 @@ pub fn check(
         (claim (now (log .entry)) (mem (now (cx .entry)) (now (cz .entry)) (now (cphases .entry)))) r (mem (now (x .exit)) (now (z .exit)) (now (phases .exit))) ⌝ }
 {
     let a = reduce_fault(n, x, z, phases, order, listed, extra);
-    let b = claim_fault(n, phases.len(), log, cx, cz, cphases);
-    let f = smaller(a, b);
+    let b = claim_fault(n, phases.len(), cx, cz, cphases);
+    let f = log_fault(smaller(a, b), log.len());
     if f != 0 {
         return Verdict::Refused(f);
     }

@@ -7,41 +7,45 @@ use Rattle.replay.proofs.check.Tie as tie
 
 returns : tie.Need-returns
 returns c =
-    let s = c .before .before .before .before .before .before .before .before .before .before .before .before .before .before .before .before .before in
+    let s = c .before .before .before .before .before .before .before .before .before .before .before .before .before .before .before .before .before .before in
     let a = s .args in
     let T = task (a .n) (mem (a .x .now) (a .z .now) (a .phases .now)) (a .order .now) (a .listed .now) (a .extra .now) in
     let L = claim (a .log .now) (mem (a .cx .now) (a .cz .now) (a .cphases .now)) in
-    let t = c .before .before .before .reduce-fault in
-    let k = c .before .before .claim-fault in
-    let m = c .before .smaller in
-    refusing T L (t .ensures .0) (k .ensures .0) (m .ensures) (t .ensures .1) (k .ensures .1) (c .if1 .taken)
+    let t = c .before .before .before .before .reduce-fault in
+    let k = c .before .before .before .claim-fault in
+    let m = c .before .before .smaller in
+    let g = c .before .log-fault in
+    refusing T L (t .ensures .0) (k .ensures .0) (m .ensures) (g .ensures) (t .ensures .1) (k .ensures .1) (c .if1 .taken)
 
 judge-requires : tie.Need-judge-requires
 judge-requires c κs =
-    let s = c .before .before .before .before .before .before .before .before .before .before .before .before .before .before .before .before .before .before .before .before in
+    let s = c .before .before .before .before .before .before .before .before .before .before .before .before .before .before .before .before .before .before .before .before .before in
     let a = s .args in
     let T = task (a .n) (mem (a .x .now) (a .z .now) (a .phases .now)) (a .order .now) (a .listed .now) (a .extra .now) in
     let L = claim (a .log .now) (mem (a .cx .now) (a .cz .now) (a .cphases .now)) in
-    let t = c .before .before .before .before .before .before .reduce-fault in
-    let k = c .before .before .before .before .before .claim-fault in
-    let m = c .before .before .before .before .smaller in
-    check-passed T L (t .ensures .0) (k .ensures .0) (m .ensures) (t .ensures .1) (k .ensures .1) (c .before .before .before .if1 .left)
+    let t = c .before .before .before .before .before .before .before .reduce-fault in
+    let k = c .before .before .before .before .before .before .claim-fault in
+    let m = c .before .before .before .before .before .smaller in
+    let g = c .before .before .before .before .log-fault in
+    check-passed T L (t .ensures .0) (k .ensures .0) (m .ensures) (g .ensures) (t .ensures .1) (k .ensures .1) (c .before .before .before .if1 .left)
 
 returns-2 : tie.Need-returns-2
 returns-2 c =
-    let s = c .before .before .before .before .before .before .before .before .before .before .before .before .before .before .before .before .before .before .before .before .before .before .before .before .before .before .before in
+    let s = c .before .before .before .before .before .before .before .before .before .before .before .before .before .before .before .before .before .before .before .before .before .before .before .before .before .before .before .before in
     let a = s .args in
     let T = task (a .n) (mem (a .x .now) (a .z .now) (a .phases .now)) (a .order .now) (a .listed .now) (a .extra .now) in
     let L = claim (a .log .now) (mem (a .cx .now) (a .cz .now) (a .cphases .now)) in
-    let t = c .before .before .before .before .before .before .before .before .before .before .before .before .before .reduce-fault in
-    let k = c .before .before .before .before .before .before .before .before .before .before .before .before .claim-fault in
-    let m = c .before .before .before .before .before .before .before .before .before .before .before .smaller in
-    judging T L (t .ensures .0) (k .ensures .0) (m .ensures) (t .ensures .1) (k .ensures .1) (c .before .before .before .before .before .before .before .before .before .before .if1 .left) (c .before .before .before .before .before .before .judge .ensures)
+    let t = c .before .before .before .before .before .before .before .before .before .before .before .before .before .before .reduce-fault in
+    let k = c .before .before .before .before .before .before .before .before .before .before .before .before .before .claim-fault in
+    let m = c .before .before .before .before .before .before .before .before .before .before .before .before .smaller in
+    let g = c .before .before .before .before .before .before .before .before .before .before .before .log-fault in
+    judging T L (t .ensures .0) (k .ensures .0) (m .ensures) (g .ensures) (t .ensures .1) (k .ensures .1) (c .before .before .before .before .before .before .before .before .before .before .if1 .left) (c .before .before .before .before .before .before .judge .ensures)
 
 pub check-spec : {M : Type 1} → statement M
 check-spec =
     tie.close
     (tie.spec
+    (λ c κs. search needs)
     (λ c κs. search needs)
     (λ c κs. search needs)
     (λ c κs. search needs)

@@ -1,18 +1,17 @@
 use borrow.Author.Needs.{needs}
 use Rattle.encoding.specs.Set.{mem}
-use Rattle.replay.specs.Check.{claim}
 use Rattle.replay.proofs.Faults.{claim-number, claim-passed}
 use Rattle.replay.proofs.claim_fault.Statement.{statement}
 use Rattle.replay.proofs.claim_fault.Tie as tie
 
 returns : tie.Need-returns
 returns c =
-    let a = c .before .before .before .before .before .before .before .args in
-    let L = claim (a .log .now) (mem (a .cx .now) (a .cz .now) (a .cphases .now)) in
+    let a = c .before .before .before .before .before .before .args in
+    let C = mem (a .cx .now) (a .cz .now) (a .cphases .now) in
     let f = c .before .before .set-fault in
-    let g = c .before .fit-fault in
+    let g = c .before .pick in
     let m = c .smaller in
-    (claim-number (a .n) (a .m) L (f .ensures .0) (g .ensures) (m .ensures), claim-passed (a .n) (a .m) L (f .ensures .0) (g .ensures) (m .ensures) (f .ensures .1))
+    (claim-number (a .n) (a .m) C (f .ensures .0) (g .ensures) (m .ensures), claim-passed (a .n) (a .m) C (f .ensures .0) (g .ensures) (m .ensures) (f .ensures .1))
 
 pub claim-fault-spec : {M : Type 1} → statement M
 claim-fault-spec =
