@@ -259,13 +259,15 @@ fn refusals(set: &Set) {
     let claim = Claim { order: &order, listed: &listed, extra: &[], log: &[], rows: set };
     let more = |list: &[u16], number: usize| [list, &[number as u16]].concat();
     let (column, row, twice) = (more(&order, COLUMNS), more(&listed, ROWS), more(&listed, ROWS - 1));
+    let again = more(&order, COLUMNS - 1);
     assert_eq!(ours::check(&mut rows, &Claim { order: &column, ..claim }).0, 6);
     assert_eq!(ours::check(&mut rows, &Claim { listed: &row, ..claim }).0, 6);
     assert_eq!(ours::check(&mut rows, &Claim { extra: &row, ..claim }).0, 6);
     assert_eq!(ours::check(&mut rows, &Claim { listed: &twice, ..claim }).0, 7);
+    assert_eq!(ours::check(&mut rows, &Claim { order: &again, log: &[0], ..claim }).0, 15);
     assert_eq!(ours::check(&mut rows, &Claim { log: &[0], ..claim }).0, 9);
     same("the rows at a refusal", rows == *set);
-    println!("refusals 1 to 9 at the limits and one past them: as they should be, nothing changed");
+    println!("refusals 1 to 9 and 15 at the limits and one past them: as they should be, nothing changed");
 }
 
 /// Every call refuses the set with this number and changes nothing.

@@ -10,7 +10,8 @@ use crate::rows::{unpacked, words_for, Set};
 /// A change, and whether it could be made.
 pub type Fault = fn(&mut Case, &mut Random) -> bool;
 
-/// All faults that make sense for a call, each with the number it alone gives.
+/// All faults that make sense for a call, each with the number it alone gives. They stand by rank: of two, the one further
+/// up gives the number.
 pub fn of_call(call: &str) -> Vec<(u8, Fault)> {
     match call {
         "phase1" | "act1" => vec![],
@@ -83,7 +84,16 @@ fn own(call: &str) -> &'static [(u8, Fault)] {
             (3, numbers_above_rows),
         ],
         "reduce" => {
-            &[(6, column_too_large), (6, listed_too_large), (6, extra_too_large), (7, listed_twice), (8, log_short)]
+            const REDUCE: &[(u8, Fault)] = &[
+                (6, column_too_large),
+                (6, listed_too_large),
+                (6, extra_too_large),
+                (7, listed_twice),
+                (15, column_twice),
+                (15, column_twice_at_ends),
+                (8, log_short),
+            ];
+            REDUCE
         }
         "reduceall" => &[(8, log_short)],
         _ => &[
@@ -91,6 +101,8 @@ fn own(call: &str) -> &'static [(u8, Fault)] {
             (6, listed_too_large),
             (6, extra_too_large),
             (7, listed_twice),
+            (15, column_twice),
+            (15, column_twice_at_ends),
             (9, odd_longer),
             (9, odd_shorter),
         ],
@@ -516,15 +528,32 @@ fn extra_too_large(case: &mut Case, random: &mut Random) -> bool {
 }
 
 fn listed_twice(case: &mut Case, random: &mut Random) -> bool {
-    if shorts(case, 5).is_empty() {
-        return false;
-    }
-    let list = shorts(case, 5);
-    let item = list[random.below(list.len())];
-    into_list(case, 5, item as usize, random)
+    twice(case, 5, random)
 }
 
-// ---- 8 and 9
+fn column_twice(case: &mut Case, random: &mut Random) -> bool {
+    twice(case, 4, random)
+}
+
+/// An item of the list once more, at any place.
+fn twice(case: &mut Case, i: usize, random: &mut Random) -> bool {
+    if shorts(case, i).is_empty() {
+        return false;
+    }
+    let list = shorts(case, i);
+    let item = list[random.below(list.len())];
+    into_list(case, i, item as usize, random)
+}
+
+/// The first column again, as the last.
+fn column_twice_at_ends(case: &mut Case, _: &mut Random) -> bool {
+    let order = shorts(case, 4);
+    let first = order.first().copied();
+    order.extend(first);
+    first.is_some()
+}
+
+// ---- 8 and 9, after 15
 
 /// A log one entry too short, where the call is sound enough to know.
 fn log_short(case: &mut Case, _: &mut Random) -> bool {

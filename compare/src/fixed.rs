@@ -176,13 +176,34 @@ fn edges(out: &mut Vec<String>) {
 fn reductions(out: &mut Vec<String>) {
     group(
         out,
-        "repeated columns",
+        "repeated columns: 15 against 1 to 8; X and Z of one qubit are two columns",
         &[
             "reduce 2 0,3,1 1,0,1 0,0,0 0,0,1,1,2,3,0,1,2,3 0,1,2 - 100",
             "reduce 1 1,1 0,1 0,0 0,0,0 0,1 - 100",
             "reduce 2 3,3,3 0,1,2 1,2,3 1,1 2,0,1 - 100",
+            "reduce 2 0,3,1 1,0,1 0,0,0 0,2,1,3 0,1,2 - 100",
+            "reduce 4097 - - - 0,0 - - 0",
+            "reduce 2 0,3 1,0,1 0,0,0 0,0 0,1,2 - 100",
+            "reduce 2 4,3,1 1,0,1 0,0,0 0,0 0,1,2 - 100",
+            "reduce 2 0,3,1 1,0,1 0,4,0 0,0 0,1,2 - 100",
+            "reduce 2 0,3,1 1,0,1 0,0,0 4,4 0,1,2 - 100",
+            "reduce 2 0,3,1 1,0,1 0,0,0 0,0,4 0,1,2 - 100",
+            "reduce 2 0,3,1 1,0,1 0,0,0 0,0 0,3,2 - 100",
+            "reduce 2 0,3,1 1,0,1 0,0,0 0,0 0,1,2 3 100",
+            "reduce 2 0,3,1 1,0,1 0,0,0 0,0 2,2 - 100",
+            "reduce 2 0,3,1 1,0,1 0,0,0 0,0,1,2,3 0,1,2 - 12",
+            "reduce 2 0,3,1 1,0,1 0,0,0 0,1,2,3,3 0,1,2 - 0",
+            "reduce 0 - - 1,2,3 0,0 2,0,1 - 0",
         ],
     );
+    out.push("# a column named once more, at every place".to_string());
+    for column in 0..4u16 {
+        for place in 0..=4 {
+            let mut order = vec![0, 1, 2, 3];
+            order.insert(place, column);
+            out.push(format!("reduce 2 0,3,1 1,0,1 0,0,0 {} 0,1,2 - 100", crate::line::joined(&order)));
+        }
+    }
     group(
         out,
         "listed rows among the extra ones, extra rows repeated",
@@ -300,6 +321,21 @@ fn checks(out: &mut Vec<String>) {
             "check 2 1 1 0 - - - 0,0 1 1 0",
             "check 2 1 1 0 - 0,0 - 0 1 1 0",
             "check 2 1 1 0 4 0 - 0 1 1 0",
+        ],
+    );
+    group(
+        out,
+        "a column twice: 15 against 3 and 5 of the claim, 6, 7, 9 and a bad entry",
+        &[
+            "check 1 1,0 0,1 0,0 0,0 0,1 - 0 1,0 0,1 0,0",
+            "check 1 1,0 0,1 0,0 0,1,0 0,1 - - 1,0 0,1 0,0",
+            "check 1 1,0 0,1 0,0 1,1 0,1 - 0,0 1,0 0,1 0,0",
+            "check 1 1,0 0,1 0,0 0,0 0,1 - 0 1 0 0",
+            "check 1 1,0 0,1 0,0 0,0 0,1 - 0 1,0 0,1 0,4",
+            "check 1 1,0 0,1 0,0 2,2 0,1 - 0 1,0 0,1 0,0",
+            "check 1 1,0 0,1 0,0 0,0 0,2 - 0 1,0 0,1 0,0",
+            "check 1 1,0 0,1 0,0 0,0 0,0 - 0 1,0 0,1 0,0",
+            "check 1 1,0 0,1 0,0 0,1 0,1 - 0 1,0 0,1 0,0",
         ],
     );
 }

@@ -20,7 +20,8 @@ pub fn answer(line: &str) -> String {
 
 type Test<'a> = (u8, Box<dyn Fn() -> bool + 'a>);
 
-/// The tests stand in rising order, so a later one may count on what the earlier ones found.
+/// The tests stand by rank, the table from the top down, so a later one may count on what the earlier ones found. Numbers
+/// need not rise.
 fn first_fitting(tests: Vec<Test>) -> Option<u8> {
     tests.iter().find(|test| (test.1)()).map(|test| test.0)
 }
@@ -57,7 +58,8 @@ fn refusal_of_sets(case: &Case) -> Option<u8> {
         (4, Box::new(|| sets.iter().any(|set| spare_bit(size, set)) || spare_bit_in_state(case))),
         (5, Box::new(|| sets.iter().any(|set| set.p.iter().any(|p| *p > 3)))),
         (6, Box::new(|| number_too_large(case, size, sets[0].p.len()))),
-        (7, Box::new(|| listed_row_repeated(case))),
+        (7, Box::new(|| repeated_in(case, 5))),
+        (15, Box::new(|| repeated_in(case, 4))),
         (9, Box::new(|| case.call == "check" && case.shorts(7).len() % 2 == 1)),
     ])
 }
@@ -109,12 +111,14 @@ fn number_too_large(case: &Case, n: usize, m: usize) -> bool {
     }
 }
 
-fn listed_row_repeated(case: &Case) -> bool {
+/// Whether a number stands twice in the order or in the listed rows.
+fn repeated_in(case: &Case, field: usize) -> bool {
     if !matches!(case.call, "reduce" | "check") {
         return false;
     }
-    let listed = case.shorts(5);
-    (0..listed.len()).any(|i| listed[..i].contains(&listed[i]))
+    let mut sorted = case.shorts(field).to_vec();
+    sorted.sort();
+    sorted.windows(2).any(|pair| pair[0] == pair[1])
 }
 
 fn refusal_of_terms(case: &Case) -> Option<u8> {
