@@ -172,7 +172,7 @@ fn lists(random: &mut Random, n: usize, m: usize) -> OwnLists {
     let order = match random.below(5) {
         0 | 1 => random.permutation(2 * n),
         2 => random.subset(2 * n),
-        // X of a qubit and Z of it side by side, or apart by n in turn
+        // X and Z of each qubit side by side
         3 => random.permutation(n).into_iter().flat_map(|q| [q, q + n as u16]).collect(),
         _ => (0..2 * n as u16).collect(),
     };
