@@ -1,0 +1,14 @@
+pub mod Kit
+pub mod Digits
+pub mod Numbers
+pub mod Reading
+pub mod Places
+pub mod Taking
+pub mod Lists
+pub mod Items
+pub mod OneText
+pub mod Back
+pub mod Lines
+pub mod Writing
+pub mod Adding
+pub mod Listing

@@ -1,0 +1,5 @@
+pub mod Readers
+pub mod Numbers
+pub mod Lists
+pub mod Lines
+pub mod Workers

@@ -1,0 +1,67 @@
+-- Lists: items with commas between them, `-` for none.
+use mathlib.Core.Path.{_≡_}
+use mathlib.Core.Bool.{Bool, cond, _&&_}
+use mathlib.Core.List.{List, [], _∷_, _++_}
+use Prim.Native.Nat.{ℕ, zero, suc, _≤_}
+use lib.ListN.{length, take, drop}
+use Rattle.text.specs.Readers.{Got, none, got, answer, starts}
+use Rattle.text.specs.Numbers.{noDigit}
+
+module _ {A : Type 0} where
+  -- ---- writing
+
+  abbrev pub joined : (A → List ℕ) → A → List A → List ℕ
+  joined write v [] = write v
+  joined write v (w ∷ l) = write v ++ (44 ∷ joined write w l)
+
+  abbrev pub listed : (A → List ℕ) → List A → List ℕ
+  listed write [] = 45 ∷ []
+  listed write (v ∷ l) = joined write v l
+
+  -- ---- reading
+
+  -- vs before what is read
+  abbrev pub after : List A → Got (List A) → Got (List A)
+  after vs none = none
+  after vs (got ws t) = got (vs ++ ws) t
+
+  -- an item, and behind a comma what follows
+  abbrev pub more : (List ℕ → Got (List A)) → Got A → Got (List A)
+  more onward none = none
+  more onward (got v t) = cond (starts 44 t) (after (v ∷ []) (onward (drop 1 t))) (got (v ∷ []) t)
+
+  -- one item or more, and no more than there is room for
+  abbrev pub items : (List ℕ → Got A) → ℕ → List ℕ → Got (List A)
+  items read zero s = none
+  items read (suc room) s = more (items read room) (read s)
+
+-- a minus that stands for the empty list, and not before a number
+abbrev pub dash : List ℕ → Bool
+dash s = starts 45 s && noDigit (drop 1 s)
+
+unfoldable pub list : {A : Type 0} → (List ℕ → Got A) → ℕ → List ℕ → Got (List A)
+list read room s = cond (dash s) (got [] (drop 1 s)) (items read room s)
+
+-- ---- which texts are read: proofs/Lists.antt has that these are, and no others
+
+-- w is two texts with a comma between them
+pub record Parted (First Others : List ℕ → Type 0) (w : List ℕ) : Type 0 where
+  pub text : List ℕ
+  pub rest : List ℕ
+  pub is : w ≡ text ++ (44 ∷ rest)
+  pub first : First text
+  pub others : Others rest
+
+-- w spells the list vs, where texts spell its items
+abbrev pub SpellsList : {A : Type 0} → (A → List ℕ → Type 0) → List A → List ℕ → Type 0
+SpellsList Item [] w = w ≡ 45 ∷ []
+SpellsList Item (v ∷ []) w = Item v w
+SpellsList Item (v ∷ x ∷ l) w = Parted (Item v) (SpellsList Item (x ∷ l)) w
+
+-- a list was read, by a reader for as many items as there is room for, into a slice that held o and holds p now; behind what was read p is as it was
+pub record Fills {A : Type 0} (read : ℕ → List ℕ → Got (List A)) (s : List ℕ) (at : ℕ) (o p : List A) (ok : Bool) (count next : ℕ) : Type 0 where
+  pub is : read (length o) (drop at s) ≡ answer ok (take count p) (drop next s)
+  pub within : next ≤ length s
+  pub room : count ≤ length o
+  pub same : length p ≡ length o
+  pub rest : drop count p ≡ drop count o
