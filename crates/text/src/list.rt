@@ -78,7 +78,8 @@ fn taken(p: Next, count: usize) -> Listed
 // ---- a function for each width: what is no item is taken for 0, and ends the list
 
 pub fn words_field(s: &[u8], at: usize, out: &mut [u64]) -> Listed
-    ensures { λ r. ⌜ Fills (fieldOf (list (number 16 18446744073709551615))) (now (s .entry)) at (now (out .entry)) (now (out .exit)) (r .ok) (r .count) (r .at) ⌝ }
+    ensures { λ r. ⌜ Fills (fieldOf (list (number 16 18446744073709551615))) (now (s .entry)) at
+        (now (out .entry)) (now (out .exit)) (r .ok) (r .count) (r .at) ⌝ }
 {
     let mut n = 0;
     let mut p = opens(s, at, out.len());
@@ -120,7 +121,8 @@ pub fn bytes_field(s: &[u8], at: usize, out: &mut [u8]) -> Listed
 }
 
 pub fn ints_field(s: &[u8], at: usize, out: &mut [i32]) -> Listed
-    ensures { λ r. ⌜ Fills (fieldOf (list (Numbers·integer 2147483647))) (now (s .entry)) at (now (out .entry)) (now (out .exit)) (r .ok) (r .count) (r .at) ⌝ }
+    ensures { λ r. ⌜ Fills (fieldOf (list (Numbers·integer 2147483647))) (now (s .entry)) at
+        (now (out .entry)) (now (out .exit)) (r .ok) (r .count) (r .at) ⌝ }
 {
     let mut n = 0;
     let mut p = opens(s, at, out.len());
