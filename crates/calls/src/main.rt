@@ -1,3 +1,82 @@
+// One call a line on standard input, one answer a line on standard output; docs/CALLS.md says how they are written.
+mod elements;
+mod feed;
+mod line;
+mod pairwise;
+mod read;
+mod reduction;
+mod rows;
 mod say;
+mod words;
 
-fn main() {}
+use encoding::MAX_QUBITS;
+use encoding::MAX_ROWS;
+
+// The most elements that a list of a line may have. Rows, lists and terms reach past what the library takes, so that a line can
+// ask for more and have it refused. Words and logs do not: a set at both limits has 4 MiB, its log 64 MiB, and a program has the
+// stack that the system gives it. The words are enough for a word in each of more rows than the limit, or for 70 of the longest rows.
+pub(crate) const ROWS: usize = MAX_ROWS + 64;
+
+pub(crate) const WORDS: usize = MAX_ROWS + 512;
+
+pub(crate) const LIST: usize = 2 * MAX_QUBITS + 64;
+
+pub(crate) const LOG: usize = 140000;
+
+pub(crate) const TERMS: usize = 65600;
+
+// The bytes of the longest line, its end among them.
+pub(crate) const LINE: usize = 3000000;
+
+// The longest answer is that of a reduction: 70,000 entries of at most 10 bytes, 9,216 words of 17, 4,160 bytes of 4.
+pub(crate) const ANSWER: usize = 900000;
+
+// All arrays are made here, once, and lent.
+fn main() {
+    let mut buf = [0u8; LINE];
+    let mut out = [0u8; ANSWER];
+    let mut x = [0u64; WORDS];
+    let mut z = [0u64; WORDS];
+    let mut p = [0u8; ROWS];
+    let mut x2 = [0u64; WORDS];
+    let mut z2 = [0u64; WORDS];
+    let mut p2 = [0u8; ROWS];
+    let mut x3 = [0u64; WORDS];
+    let mut z3 = [0u64; WORDS];
+    let mut p3 = [0u8; ROWS];
+    let mut clashes = [0u16; ROWS];
+    let mut order = [0u16; LIST];
+    let mut listed = [0u16; LIST];
+    let mut extra = [0u16; LIST];
+    let mut log = [0u16; LOG];
+    let mut tx = [0u64; TERMS];
+    let mut tz = [0u64; TERMS];
+    let mut re = [0i32; TERMS];
+    let mut im = [0i32; TERMS];
+    let mut fre = [0.0f64; TERMS];
+    let mut fim = [0.0f64; TERMS];
+    feed::run(
+        &mut buf,
+        &mut out,
+        &mut x,
+        &mut z,
+        &mut p,
+        &mut x2,
+        &mut z2,
+        &mut p2,
+        &mut x3,
+        &mut z3,
+        &mut p3,
+        &mut clashes,
+        &mut order,
+        &mut listed,
+        &mut extra,
+        &mut log,
+        &mut tx,
+        &mut tz,
+        &mut re,
+        &mut im,
+        &mut fre,
+        &mut fim,
+    );
+}
