@@ -30,7 +30,9 @@ struct Feed {
     over: bool,
 }
 
-fn over() -> Feed {
+fn over() -> Feed
+    ensures { λ r. ⌜ (r .start ≤ r .stop) × (r .stop ≤ 3000000) ⌝ }
+{
     Feed {
         whole: false,
         start: 0,
@@ -130,7 +132,10 @@ fn read_at(buf: &mut [u8], n: usize) -> isize {
 
 // The end of the input ends the last line too.
 fn ended(buf: &mut [u8], n: usize) -> Feed {
-    if (n == 0) | (n >= buf.len()) {
+    if n == 0 {
+        return over();
+    }
+    if buf.len() <= n {
         return over();
     }
     buf[n] = b'\n';
@@ -155,12 +160,13 @@ fn refill(buf: &mut [u8; LINE], f: Feed) -> Feed {
     if got == 0 {
         return ended(buf, n);
     }
+    let more = io::count(got, buf);
     Feed {
         whole: false,
         start: 0,
         stop: 0,
         scan: n,
-        end: n + least(got as usize, CHUNK),
+        end: least(n + more, LINE),
         waiting: 0,
         over: false,
     }
@@ -186,7 +192,10 @@ fn next(buf: &mut [u8; LINE], out: &[u8; ANSWER], f: Feed) -> Feed
 fn at_hand(f: Feed, e: usize) -> Feed
     ensures { λ r. ⌜ (r .start ≤ r .stop) × (r .stop ≤ 3000000) ⌝ }
 {
-    if (f.start > e) | (e > LINE) {
+    if e < f.start {
+        return over();
+    }
+    if LINE < e {
         return over();
     }
     Feed {
@@ -299,10 +308,10 @@ pub(crate) fn run(
             return;
         }
         f = next(buf, out, f);
-        let start = f.start;
-        let stop = f.stop;
         let r = line::answer(
-            &buf[start..stop],
+            buf,
+            f.start,
+            f.stop,
             x,
             z,
             p,

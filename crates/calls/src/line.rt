@@ -1,4 +1,6 @@
 // One line and its answer. Each group of calls adds the answer to a line that names one of its own, and nothing to another.
+ghost use Prim.Native.Nat.{_≤_};
+ghost use lib.ListN.{length};
 use crate::ANSWER;
 use crate::LIST;
 use crate::LOG;
@@ -231,7 +233,9 @@ fn unknown(s: &[u8], n: usize, out: &mut [u8; ANSWER], r: Put) -> Put {
 
 // The answer to a line, behind what was written before.
 pub(crate) fn answer(
-    s: &[u8],
+    buf: &[u8],
+    start: usize,
+    stop: usize,
     x: &mut [u64; WORDS],
     z: &mut [u64; WORDS],
     p: &mut [u8; ROWS],
@@ -254,7 +258,10 @@ pub(crate) fn answer(
     fim: &mut [f64; TERMS],
     out: &mut [u8; ANSWER],
     r: Put,
-) -> Put {
+) -> Put
+    requires { ⌜ (start ≤ stop) × (stop ≤ length (now buf)) ⌝ }
+{
+    let s = &buf[start..stop];
     let n = name_end(s);
     let r = of_words(s, n, out, r);
     let r = of_set(s, n, x, z, p, out, r);
