@@ -9,7 +9,7 @@ use crate::TERMS;
 use crate::WORDS;
 use crate::elements;
 use crate::pairwise;
-use crate::reduction;
+use crate::reducing;
 use crate::rows;
 use crate::say;
 use crate::words;
@@ -151,13 +151,13 @@ fn reductions(
     r: Put,
 ) -> Put {
     if is(s, n, b"reduce") {
-        return reduction::reduce(s, n, x, z, p, order, listed, extra, log, out, r);
+        return reducing::reduce(s, n, x, z, p, order, listed, extra, log, out, r);
     }
     if is(s, n, b"reduceall") {
-        return reduction::reduce_all(s, n, x, z, p, log, out, r);
+        return reducing::reduce_all(s, n, x, z, p, log, out, r);
     }
     if is(s, n, b"check") {
-        return reduction::check(s, n, x, z, p, order, listed, extra, log, x2, z2, p2, out, r);
+        return reducing::check(s, n, x, z, p, order, listed, extra, log, x2, z2, p2, out, r);
     }
     r
 }

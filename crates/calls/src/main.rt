@@ -4,7 +4,7 @@ mod feed;
 mod line;
 mod pairwise;
 mod read;
-mod reduction;
+mod reducing;
 mod rows;
 mod say;
 mod words;

@@ -1,0 +1,23 @@
+use Rattle.calls.proofs.Kit.{arith, needs}
+use Rattle.calls.proofs.reducing.check.Statement.{statement}
+use Rattle.calls.proofs.reducing.check.Tie as tie
+
+claimed-requires : tie.Need-claimed-requires
+claimed-requires c κs = let f = c .before .before .before .before .before .before .before .before .before .before .before .before .before .before .before .before .before .before .before .before .before .before .before .before .before .before .before .before .before .before .before .before .before .before .read-rows .ensures in
+    let g = c .before .before .before .before .before .before .before .before .before .before .before .before .before .before .before .before .before .before .before .before .before .before .before .before .before .before .before .before .before .before .read-lists .ensures in
+    let h = c .before .before .before .before .before .before .before .before .before .before .before .before .before .before .before .before .before .before .before .before .before .before .before .before .before .before .before .before .halves-field .ensures in
+    let k = c .before .before .before .before .before .before .before .before .before .before .before .before .before .before .before .before .before .before .before .before .before .before .before .before .read-set .ensures in
+    ((f .room-x, f .room-z, f .room-p), ((g .room-order, g .room-listed, g .room-extra), (omega (arith, h .room, h .same), (k .room-x, k .room-z, k .room-p))))
+
+pub check-spec : {M : Type 1} → statement M
+check-spec =
+    tie.close
+    (tie.spec
+    (λ c κs. search needs)
+    (λ c κs. search needs)
+    (λ c κs. search needs)
+    (λ c κs. search needs)
+    (λ c κs. search needs)
+    (λ c. search needs)
+    claimed-requires
+    (λ c. search needs))

@@ -1,4 +1,0 @@
-pub mod Going
-pub mod Growing
-pub mod Filling
-pub mod Parts

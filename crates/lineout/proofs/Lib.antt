@@ -1,4 +1,0 @@
-pub mod Writes
-pub mod Lists
-pub mod Numbers
-pub mod Determined

@@ -1,3 +1,0 @@
-pub mod Writing
-pub mod Numbers
-pub mod Lists
