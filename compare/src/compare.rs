@@ -62,40 +62,72 @@ pub struct Run {
     waiting: Vec<String>,
     bytes: usize,
     shown: usize,
+    faults: usize,
 }
 
 const LINES_AT_ONCE: usize = 20_000;
 const BYTES_AT_ONCE: usize = 16_000_000;
 const SHOWN: usize = 20;
 
-/// The answers of a program to some lines, one each; one that stops early leaves the rest without.
-pub fn asked(program: &[String], lines: &[&str]) -> Vec<String> {
-    let mut child = Command::new(&program[0])
-        .args(&program[1..])
-        .stdin(Stdio::piped())
-        .stdout(Stdio::piped())
-        .spawn()
-        .unwrap_or_else(|e| panic!("{}: {e}", program[0]));
+/// What a program said to some lines: an answer to each, and how often it did not behave as such a program has to.
+pub struct Said {
+    pub answers: Vec<String>,
+    pub faults: usize,
+}
+
+/// Asks a program. Every fault is printed; answers that are missing are `(no answer)`.
+pub fn asked(program: &[String], lines: &[&str]) -> Said {
+    let (out, mut faults) = output_of(program, lines.join("\n") + "\n");
+    faults.extend(faults_of(&out));
+    let mut answers: Vec<String> = String::from_utf8_lossy(&out).split('\n').map(str::to_string).collect();
+    if answers.last().is_some_and(String::is_empty) {
+        answers.pop();
+    }
+    if answers.len() != lines.len() {
+        faults.push(format!("{} lines, {} answers", lines.len(), answers.len()));
+    }
+    faults.iter().for_each(|fault| println!("fault: {}: {fault}", program.join(" ")));
+    answers.resize(lines.len(), "(no answer)".to_string());
+    Said { answers, faults: faults.len() }
+}
+
+/// What a program writes when it is given the text, and what was wrong with its start, its reading and its end.
+fn output_of(program: &[String], text: String) -> (Vec<u8>, Vec<String>) {
+    let mut command = Command::new(&program[0]);
+    command.args(&program[1..]).stdin(Stdio::piped()).stdout(Stdio::piped());
+    let mut child = match command.spawn() {
+        Ok(child) => child,
+        Err(e) => return (vec![], vec![format!("it does not start: {e}")]),
+    };
     let mut input = child.stdin.take().expect("standard input");
-    let text = lines.join("\n") + "\n";
+    let mut output = child.stdout.take().expect("standard output");
     let mut out = vec![];
-    std::thread::scope(|scope| {
-        // A program that ended early closes its input; its missing answers tell.
-        scope.spawn(move || {
-            let _ = input.write_all(text.as_bytes());
-        });
-        child.stdout.take().expect("standard output").read_to_end(&mut out).expect("answers");
+    let (read, written) = std::thread::scope(|scope| {
+        let writer = scope.spawn(move || input.write_all(text.as_bytes()));
+        (output.read_to_end(&mut out), writer.join().expect("the writer"))
     });
     let status = child.wait().expect("the program's end");
+    let mut faults = vec![];
+    faults.extend(read.err().map(|e| format!("its answers cannot be read: {e}")));
+    faults.extend(written.err().map(|e| format!("it did not read all lines: {e}")));
     if !status.success() {
-        println!("{} ended with {status}", program.join(" "));
+        faults.push(format!("it ended with {status}"));
     }
-    let mut answers: Vec<String> = String::from_utf8_lossy(&out).lines().map(str::to_string).collect();
-    if answers.len() != lines.len() {
-        println!("{}: {} lines, {} answers", program.join(" "), lines.len(), answers.len());
+    (out, faults)
+}
+
+/// What is wrong with the bytes of some answers: each has to be printable and to end with a line feed.
+fn faults_of(out: &[u8]) -> Vec<String> {
+    let mut faults = vec![];
+    if out.last().is_some_and(|byte| *byte != b'\n') {
+        faults.push("the last answer has no line end".to_string());
     }
-    answers.resize(lines.len(), "(no answer)".to_string());
-    answers
+    if let Some(at) = out.iter().position(|byte| !matches!(byte, b' '..=b'~' | b'\n')) {
+        let answer = 1 + out[..at].iter().filter(|byte| **byte == b'\n').count();
+        let byte = if out[at] == b'\r' { "a carriage return".to_string() } else { format!("byte {}", out[at]) };
+        faults.push(format!("{byte} in answer {answer}"));
+    }
+    faults
 }
 
 /// Whether the Rust has something to say to a case that the model answers so: all that is not refused, refusals 8 and
@@ -169,12 +201,31 @@ impl Run {
             return;
         }
         let model: Vec<String> = lines.iter().map(|line| model::answer(line)).collect();
-        let rust = rust_column(programs, &lines, &model);
+        let rust = self.rust_column(programs, &lines, &model);
         let every: Vec<&str> = lines.iter().map(String::as_str).collect();
-        let calls = programs.calls.as_ref().map(|program| asked(program, &every));
+        let calls = programs.calls.as_ref().map(|program| self.answers(program, &every));
         for (i, line) in lines.iter().enumerate() {
             self.judge(line, &model[i], rust[i].as_deref(), calls.as_ref().map(|answers| answers[i].as_str()));
         }
+    }
+
+    /// The program's answers; its faults are counted.
+    fn answers(&mut self, program: &[String], lines: &[&str]) -> Vec<String> {
+        let said = asked(program, lines);
+        self.faults += said.faults;
+        said.answers
+    }
+
+    /// The Rust's answers, nothing where it is not asked.
+    fn rust_column(&mut self, programs: &Programs, lines: &[String], model: &[String]) -> Vec<Option<String>> {
+        let mut out = vec![None; lines.len()];
+        if let Some(program) = &programs.oracle {
+            let places: Vec<usize> = (0..lines.len()).filter(|i| rust_answers(&model[*i])).collect();
+            let chosen: Vec<&str> = places.iter().map(|i| lines[*i].as_str()).collect();
+            let answers = self.answers(program, &chosen);
+            places.iter().zip(answers).for_each(|(i, answer)| out[*i] = Some(answer));
+        }
+        out
     }
 
     fn judge(&mut self, line: &str, model: &str, rust: Option<&str>, calls: Option<&str>) {
@@ -211,7 +262,7 @@ impl Run {
         println!("  calls: {}", short(calls.unwrap_or("(not asked)")));
     }
 
-    /// Prints the table; the number of cases with a difference.
+    /// Prints the table; the number of cases with a difference, of faults, and of what the run could not have seen.
     pub fn report(&self) -> usize {
         println!("| call | cases | Rust and model | differ | calls and model | differ | calls and Rust | differ |");
         println!("|---|---:|---:|---:|---:|---:|---:|---:|");
@@ -227,8 +278,21 @@ impl Run {
         println!("answers of the model: {}", kinds.join(", "));
         println!("{}", self.wholes.report());
         println!("{}", self.signs.report());
-        println!("cases with a difference: {}", self.shown);
-        self.shown + self.wholes.blind() as usize
+        println!("{}", self.wrong());
+        self.shown + self.faults + self.wholes.blind() as usize
+    }
+
+    /// Prints how some lines were answered; the number of cases with a difference and of faults, and never 0 where no
+    /// program was asked anything.
+    pub fn report_lines(&self) -> usize {
+        let compared: u64 = self.tallies.values().map(|t| t.rust_model.compared + t.calls_model.compared).sum();
+        println!("answers compared with the model's: {compared}");
+        println!("{}", self.wrong());
+        self.shown + self.faults + (compared == 0) as usize
+    }
+
+    fn wrong(&self) -> String {
+        format!("cases with a difference: {}; faults of the programs: {}", self.shown, self.faults)
     }
 }
 
@@ -324,18 +388,6 @@ fn same_element(whole: Option<&str>, float: Option<&str>) -> bool {
 fn counted(count: &mut Count, agree: bool) -> bool {
     count.add(agree);
     agree
-}
-
-/// The Rust's answers, nothing where it is not asked.
-fn rust_column(programs: &Programs, lines: &[String], model: &[String]) -> Vec<Option<String>> {
-    let mut out = vec![None; lines.len()];
-    if let Some(program) = &programs.oracle {
-        let places: Vec<usize> = (0..lines.len()).filter(|i| rust_answers(&model[*i])).collect();
-        let chosen: Vec<&str> = places.iter().map(|i| lines[*i].as_str()).collect();
-        let answers = asked(program, &chosen);
-        places.iter().zip(answers).for_each(|(i, answer)| out[*i] = Some(answer));
-    }
-    out
 }
 
 fn print_row(name: &str, tally: &Tally) {

@@ -1,6 +1,6 @@
 //! The fixed list: some thousands of lines with their answers, the Rust's where it has one and the model's elsewhere.
 
-use crate::compare::{agrees_with_rust, asked, rust_answers};
+use crate::compare::{agrees_with_rust, asked, rust_answers, Said};
 use crate::limits::{QUBITS, ROWS, WORDS_IN_REACH};
 use crate::line::{is_case, Case, Field, CALLS};
 use crate::model;
@@ -9,17 +9,17 @@ use crate::rows::{packed, words_for, Pauli, Row, Set};
 use crate::small::{over_sets, plain_terms, singles_and_pairs};
 use crate::{malformed, valid};
 
-/// Writes the list and its answers; the number of cases where Rust and model differ.
+/// Writes the list and its answers; the number of cases where Rust and model differ, and of the Rust's faults.
 pub fn write(oracle: Option<Vec<String>>, cases: &str, answers: &str) -> usize {
     let lines = list();
     let asked_for: Vec<&str> = lines.iter().map(String::as_str).filter(|line| is_case(line)).collect();
     let model: Vec<String> = asked_for.iter().map(|line| model::answer(line)).collect();
     let places: Vec<usize> = (0..model.len()).filter(|i| oracle.is_some() && rust_answers(&model[*i])).collect();
     let chosen: Vec<&str> = places.iter().map(|i| asked_for[*i]).collect();
-    let rust = oracle.map_or(vec![], |program| asked(&program, &chosen));
+    let rust = oracle.map_or(Said { answers: vec![], faults: 0 }, |program| asked(&program, &chosen));
     let mut out = model.clone();
     let mut differing = 0;
-    for (i, rust) in places.iter().zip(rust) {
+    for (i, rust) in places.iter().zip(rust.answers) {
         if !agrees_with_rust(&model[*i], &rust) {
             println!("differs: {}\n  model: {}\n  Rust:  {rust}", asked_for[*i], model[*i]);
             differing += 1;
@@ -30,7 +30,7 @@ pub fn write(oracle: Option<Vec<String>>, cases: &str, answers: &str) -> usize {
     std::fs::write(cases, lines.join("\n") + "\n").expect("the file of cases");
     std::fs::write(answers, out.join("\n") + "\n").expect("the file of answers");
     println!("{} cases, {} of them compared with the Rust, {differing} differ", out.len(), places.len());
-    differing
+    differing + rust.faults
 }
 
 /// All lines, comments included.

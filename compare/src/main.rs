@@ -1,4 +1,5 @@
 //! compare run SEED COUNT ORACLE [CALLS...]    compare, print the table
+//! compare lines ORACLE [CALLS...]             compare on the lines of standard input
 //! compare fixed ORACLE CASES ANSWERS          write the fixed list
 //! compare cases SEED COUNT                    print the lines of a run
 //! compare model                               answer the lines on standard input by the model
@@ -30,6 +31,7 @@ fn main() {
     let args: Vec<&str> = args.iter().map(String::as_str).collect();
     let differences = match args[..] {
         ["run", seed, count, oracle, ref calls @ ..] => run(number(seed), number(count), oracle, calls),
+        ["lines", oracle, ref calls @ ..] => compare_lines(oracle, calls),
         ["fixed", oracle, cases, answers] => fixed::write(program(&[oracle]), cases, answers),
         ["cases", seed, count] => print_cases(number(seed), number(count)),
         ["model"] => print_answers(),
@@ -40,7 +42,7 @@ fn main() {
 
 fn usage() -> ! {
     eprintln!(
-        "usage: compare run SEED COUNT ORACLE [CALLS...] | fixed ORACLE CASES ANSWERS | cases SEED COUNT | model"
+        "usage: compare run SEED COUNT ORACLE [CALLS...] | lines ORACLE [CALLS...] | fixed ORACLE CASES ANSWERS | cases SEED COUNT | model"
     );
     exit(2)
 }
@@ -66,6 +68,21 @@ fn run(seed: u64, count: u64, oracle: &str, calls: &[&str]) -> usize {
     run.report()
 }
 
+fn compare_lines(oracle: &str, calls: &[&str]) -> usize {
+    let programs = Programs { oracle: program(&[oracle]), calls: program(calls) };
+    let mut run = Run::default();
+    input(&mut |line| run.put(&programs, line));
+    run.work_off(&programs);
+    run.report_lines()
+}
+
+/// The lines of standard input as they are: only the line feed is taken off.
+fn input(sink: &mut dyn FnMut(String)) {
+    for line in std::io::stdin().lock().split(b'\n') {
+        sink(String::from_utf8_lossy(&line.expect("standard input")).into_owned());
+    }
+}
+
 fn print_cases(seed: u64, count: u64) -> usize {
     let mut out = std::io::BufWriter::new(std::io::stdout().lock());
     cases::all(seed, count, &mut |line| writeln!(out, "{line}").expect("standard output"));
@@ -74,11 +91,10 @@ fn print_cases(seed: u64, count: u64) -> usize {
 
 fn print_answers() -> usize {
     let mut out = std::io::BufWriter::new(std::io::stdout().lock());
-    for line in std::io::stdin().lock().lines() {
-        let line = line.expect("standard input");
+    input(&mut |line| {
         if line::is_case(&line) {
             writeln!(out, "{}", model::answer(&line)).expect("standard output");
         }
-    }
+    });
     0
 }
