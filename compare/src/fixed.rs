@@ -7,7 +7,7 @@ use crate::model;
 use crate::random::Random;
 use crate::rows::{packed, words_for, Pauli, Row, Set};
 use crate::small::{over_sets, plain_terms, singles_and_pairs};
-use crate::{malformed, valid};
+use crate::{forms, malformed, valid};
 
 /// Writes the list and its answers; the number of cases where Rust and model differ, and of the Rust's faults.
 pub fn write(oracle: Option<Vec<String>>, cases: &str, answers: &str) -> usize {
@@ -50,6 +50,7 @@ fn list() -> Vec<String> {
     clashes(&mut out);
     whole_numbers(&mut out);
     signed_pairs(&mut out);
+    edges_of_the_form(&mut out);
     out
 }
 
@@ -469,6 +470,13 @@ fn not_of_the_form(out: &mut Vec<String>) {
     for i in 0..400 {
         out.push(malformed::line(&mut Random::of(3, i)));
     }
+}
+
+fn edges_of_the_form(out: &mut Vec<String>) {
+    let what = "digits, ends of each kind of number, lists and lengths as long as a line has them";
+    out.push(format!("# the edges of the form: {what}"));
+    // a file of text has no carriage returns
+    forms::all(&mut |line| out.extend(Some(line).filter(|line| !line.contains('\r'))));
 }
 
 fn random(out: &mut Vec<String>) {

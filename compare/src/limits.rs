@@ -1,9 +1,25 @@
-//! The limits of document 01, for the model and the cases; and what a line of `calls` may ask for beside them.
+//! The limits of document 01, for the model and the cases; what a line of `calls` holds beside them (docs/CALLS.md); and
+//! what the cases ask for.
 
 pub const QUBITS: usize = 4096;
 pub const ROWS: usize = 4096;
 
-/// The words of a set or an output that a line may ask for (docs/CALLS.md).
+/// As many phase bytes of a set as a line has, or lends.
+pub const LINE_ROWS: usize = ROWS + 64;
+
+/// Words of a set, a state or an output.
+pub const LINE_WORDS: usize = ROWS + 512;
+
+/// Columns of an order, rows of a list.
+pub const LINE_LIST: usize = 2 * QUBITS + 64;
+
+/// Units of a log.
+pub const LINE_LOG: usize = 140_000;
+
+/// Terms of a matrix element.
+pub const LINE_TERMS: usize = 65_600;
+
+/// The words of a set or an output that most cases stay below.
 pub const WORDS_IN_REACH: usize = 4400;
 
 /// And the units of a log.

@@ -1,5 +1,7 @@
 //! The lines of docs/CALLS.md, read and written by one table of calls.
 
+use crate::limits::{LINE_LIST, LINE_LOG, LINE_ROWS, LINE_TERMS, LINE_WORDS};
+
 #[derive(Clone, Debug, PartialEq)]
 pub enum Field {
     Number(u64),
@@ -12,8 +14,8 @@ pub enum Field {
     Lengths([u64; 4]),
 }
 
-/// Each call with the kinds of its fields: n number, w word, W words, B bytes, S list of u16, I list of i32, L letter,
-/// T four lengths.
+/// Each call with the kinds of its fields: n number, w word, W words of rows, B bytes, S list of u16, G log, V words of
+/// terms, I list of i32, L letter; lent lengths: o words of a matrix, T four of a set to be written, u units of a log.
 pub const CALLS: [(&str, &str); 17] = [
     ("phase1", "wwww"),
     ("act1", "www"),
@@ -23,15 +25,15 @@ pub const CALLS: [(&str, &str); 17] = [
     ("act", "nWWBnW"),
     ("phase", "nWWBnn"),
     ("comm", "nWWBnn"),
-    ("matrix", "nWWBn"),
+    ("matrix", "nWWBo"),
     ("central", "nWWBn"),
     ("pair", "nWWBWWBT"),
     ("imul", "nWWBnn"),
-    ("reduce", "nWWBSSSn"),
-    ("reduceall", "nWWBn"),
-    ("check", "nWWBSSSSWWB"),
-    ("elemf", "nWWWWww"),
-    ("elemi", "nWWIIww"),
+    ("reduce", "nWWBSSSu"),
+    ("reduceall", "nWWBu"),
+    ("check", "nWWBSSSGWWB"),
+    ("elemf", "nVVVVww"),
+    ("elemi", "nVVIIww"),
 ];
 
 #[derive(Clone, Debug, PartialEq)]
@@ -111,24 +113,43 @@ pub fn parsed(line: &str) -> Option<Case> {
     Some(Case { call, fields })
 }
 
+/// The kinds of a call's fields.
+pub fn kinds_of(call: &str) -> std::str::Chars<'static> {
+    CALLS.iter().find(|c| c.0 == call).expect("a call of the table").1.chars()
+}
+
 fn field(kind: char, text: &str) -> Option<Field> {
+    let short = |s: &str| decimal(s, 65535).map(|v| v as u16);
     Some(match kind {
         'n' => Field::Number(decimal(text, u64::MAX)?),
         'w' => Field::Word(hex(text)?),
-        'W' => Field::Words(list(text, hex)?),
-        'B' => Field::Bytes(list(text, |s| decimal(s, 255).map(|v| v as u8))?),
-        'S' => Field::Shorts(list(text, |s| decimal(s, 65535).map(|v| v as u16))?),
-        'I' => Field::Ints(list(text, int)?),
+        'W' => Field::Words(list(text, LINE_WORDS, hex)?),
+        'B' => Field::Bytes(list(text, LINE_ROWS, |s| decimal(s, 255).map(|v| v as u8))?),
+        'S' => Field::Shorts(list(text, LINE_LIST, short)?),
+        'G' => Field::Shorts(list(text, LINE_LOG, short)?),
+        'V' => Field::Words(list(text, LINE_TERMS, hex)?),
+        'I' => Field::Ints(list(text, LINE_TERMS, int)?),
         'L' => Field::Letter(letter(text)?),
-        _ => Field::Lengths(list(text, |s| decimal(s, u64::MAX))?.try_into().ok()?),
+        'o' => Field::Number(decimal(text, LINE_WORDS as u64)?),
+        'u' => Field::Number(decimal(text, LINE_LOG as u64)?),
+        _ => Field::Lengths(lengths(text)?),
     })
 }
 
-fn list<T>(text: &str, one: impl Fn(&str) -> Option<T>) -> Option<Vec<T>> {
+/// A list of at most so many items.
+fn list<T>(text: &str, most: usize, one: impl Fn(&str) -> Option<T>) -> Option<Vec<T>> {
     if text == "-" {
         return Some(vec![]);
     }
-    text.split(',').map(one).collect()
+    let items: Vec<T> = text.split(',').map(one).collect::<Option<_>>()?;
+    (items.len() <= most).then_some(items)
+}
+
+/// X words, Z words, phase bytes and numbers of a set to be written.
+fn lengths(text: &str) -> Option<[u64; 4]> {
+    let lengths: [u64; 4] = list(text, 4, |s| decimal(s, u64::MAX))?.try_into().ok()?;
+    let most = [LINE_WORDS, LINE_WORDS, LINE_ROWS, LINE_ROWS];
+    lengths.iter().zip(most).all(|(length, most)| *length <= most as u64).then_some(lengths)
 }
 
 /// A decimal number of 1 to 20 digits and at most `top`.

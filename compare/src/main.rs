@@ -10,6 +10,7 @@ mod cases;
 mod compare;
 mod faults;
 mod fixed;
+mod forms;
 mod limits;
 mod line;
 mod malformed;

@@ -1,7 +1,5 @@
 //! Lines that are not of the form, or barely are: one change to the text of a sound line.
 
-use crate::limits::WORDS_IN_REACH;
-use crate::line::{parsed, Case, Field};
 use crate::random::Random;
 use crate::valid;
 
@@ -11,25 +9,12 @@ pub fn line(random: &mut Random) -> String {
         if line.len() > 400 {
             continue;
         }
-        let line = changed(random, &line);
-        if parsed(&line).is_none_or(|case| within_reach(&case)) {
-            return line;
-        }
+        return changed(random, &line);
     }
 }
 
-/// A change may leave a line sound but ask for a log or an output of more units than any program lends.
-fn within_reach(case: &Case) -> bool {
-    let most = if case.call == "matrix" { WORDS_IN_REACH as u64 } else { 65535 };
-    case.fields.iter().skip(1).all(|field| match field {
-        Field::Number(v) => *v <= most,
-        Field::Lengths(v) => v.iter().all(|v| *v <= WORDS_IN_REACH as u64),
-        _ => true,
-    })
-}
-
 fn changed(random: &mut Random, line: &str) -> String {
-    match random.below(9) {
+    match random.below(10) {
         0 => without_field(random, line),
         1 => format!("{line} {}", random.pick(&["0", "-", "", "x", "0,0"])),
         2 => line.replacen(' ', "  ", 1),
@@ -39,7 +24,8 @@ fn changed(random: &mut Random, line: &str) -> String {
         6 => random
             .pick(&["phase2 1 1 1 1", "get", "reduceall", " ", "x", "elem", "PHASE1 0 0 0 0", "phase1"])
             .to_string(),
-        7 => line.replacen(',', random.pick(&[",,", ", ", ";", "", ":"]), 1),
+        7 => with_zeros(random, line),
+        8 => line.replacen(',', random.pick(&[",,", ", ", ";", "", ":"]), 1),
         _ => line[..random.within(1, line.len() - 1)].to_string(),
     }
 }
@@ -61,6 +47,19 @@ fn with_byte(random: &mut Random, line: &str) -> String {
     String::from_utf8(bytes).expect("a line is ASCII")
 }
 
+/// Zeros before an item, so that it has up to two digits too many for its kind; or before a letter.
+fn with_zeros(random: &mut Random, line: &str) -> String {
+    let starts: Vec<usize> = (1..line.len()).filter(|at| matches!(line.as_bytes()[at - 1], b' ' | b',')).collect();
+    if starts.is_empty() {
+        return "x".to_string();
+    }
+    let at = random.pick(&starts);
+    let at = at + line[at..].starts_with('-') as usize;
+    let digits = line[at..].find([' ', ',']).unwrap_or(line.len() - at);
+    let wanted = random.pick(&[2, 15, 16, 17, 18, 19, 20, 21, 22]);
+    format!("{}{}{}", &line[..at], "0".repeat(wanted.max(digits) - digits), &line[at..])
+}
+
 /// Another text in place of a field, among them numbers just outside of their kinds.
 fn other_field(random: &mut Random, line: &str) -> String {
     let texts = [
@@ -72,6 +71,9 @@ fn other_field(random: &mut Random, line: &str) -> String {
         "ffffffffffffffff",
         "4096",
         "65536",
+        "00000000000000000",
+        "00000000000000000000",
+        "000000000000000000000",
         "18446744073709551616",
         "100000000000000000000",
         "-1",

@@ -1,0 +1,137 @@
+//! Lines at the edges of the form: zeros before a number up to one digit too many, each kind of number at its ends, and
+//! every list and lent length as long as a line may have it, and one longer.
+
+use crate::limits::{LINE_LIST, LINE_LOG, LINE_ROWS, LINE_TERMS, LINE_WORDS};
+use crate::line::{joined, kinds_of};
+use crate::small::Sink;
+
+/// A sound line of each call, with something in every list.
+const LINES: [&str; 17] = [
+    "phase1 1 0 1 1",
+    "act1 1 1 1",
+    "get 1 1,0 0,1 0,3 1 0",
+    "set 1 1,0 0,1 0,3 1 0 Y",
+    "count 1 1,0 0,1 0,3 1",
+    "act 1 1,0 0,1 0,3 1 1",
+    "phase 1 1,0 0,1 0,3 0 1",
+    "comm 1 1,0 0,1 0,3 0 1",
+    "matrix 1 1,0 0,1 0,3 2",
+    "central 1 1,0 0,1 0,3 1",
+    "pair 1 1,0 0,1 0,3 1,1 0,1 2,1 2,2,2,2",
+    "imul 1 1,0 0,1 0,3 0 1",
+    "reduce 1 1,1 0,1 0,3 0,1 0 1 8",
+    "reduceall 1 1,1 0,1 0,3 8",
+    "check 1 1,1 0,1 0,3 0,1 0 1 1,0 1,0 0,1 0,1",
+    "elemf 1 0,1 1,1 3ff0000000000000,4000000000000000 0,3ff0000000000000 1 1",
+    "elemi 1 0,1 1,1 -3,2 5,-7 1 1",
+];
+
+pub fn all(sink: Sink) {
+    each_field(sink, digits);
+    each_field(sink, ends);
+    lengths(sink);
+    lists(sink);
+}
+
+/// Every field of every line with each of its other texts.
+fn each_field(sink: Sink, texts: fn(char, &str) -> Vec<String>) {
+    for line in LINES {
+        let fields: Vec<&str> = line.split(' ').collect();
+        for (at, kind) in (1..).zip(kinds_of(fields[0])) {
+            for text in texts(kind, fields[at]) {
+                let mut other = fields.clone();
+                other[at] = &text;
+                sink(other.join(" "));
+            }
+        }
+    }
+}
+
+/// The first item, and the last, with zeros before it: 16 digits are the most of a word, 20 of all others.
+fn digits(kind: char, field: &str) -> Vec<String> {
+    let items: Vec<&str> = field.split(',').collect();
+    let mut places = vec![0, items.len() - 1];
+    places.dedup();
+    let mut out = vec![];
+    for at in places {
+        for digits in [16, 17, 20, 21] {
+            let (sign, size) = items[at].split_at(items[at].starts_with('-') as usize);
+            let long = format!("{sign}{size:0>digits$}");
+            let mut other = items.clone();
+            other[at] = &long;
+            out.push(other.join(","));
+        }
+    }
+    out.retain(|_| kind != 'L');
+    out
+}
+
+/// The first item at the ends of its kind, and outside of them; a list that is none.
+fn ends(kind: char, field: &str) -> Vec<String> {
+    let items: &[&str] = match kind {
+        'n' | 'o' | 'u' | 'T' => {
+            &["65535", "65536", "18446744073709551615", "18446744073709551616", "99999999999999999999"]
+        }
+        'w' | 'W' | 'V' => &["ffffffffffffffff", "10000000000000000", "A", "g", "0x1"],
+        'B' => &["3", "4", "255", "256"],
+        'S' | 'G' => &["65535", "65536"],
+        'I' => &["2147483647", "2147483648", "-2147483648", "-2147483649", "-4294967296", "-0", "--1"],
+        _ => &["I", "i", "XY"],
+    };
+    let rest = field.split_once(',').map_or(String::new(), |(_, rest)| format!(",{rest}"));
+    let first = items.iter().map(|item| format!("{item}{rest}"));
+    let wrong = ["", "+1", "-1", "1 ", "1,", ",1", "1,,1", "1;1", "1\r", "-,-"];
+    first.chain(wrong.map(str::to_string)).collect()
+}
+
+/// Lent lengths at what a line may ask for, and one more.
+fn lengths(sink: Sink) {
+    for (most, head) in
+        [(LINE_WORDS, "matrix 1 1 1 0"), (LINE_LOG, "reduceall 1 1 1 0"), (LINE_LOG, "reduce 1 1 1 0 0 0 -")]
+    {
+        sink(format!("{head} {most}"));
+        sink(format!("{head} {}", most + 1));
+    }
+    let most = [LINE_WORDS, LINE_WORDS, LINE_ROWS, LINE_ROWS];
+    sink(format!("pair 0 - - - - - - {}", joined(&most)));
+    for at in 0..4 {
+        let (mut alone, mut more) = ([0; 4], most);
+        alone[at] = most[at];
+        more[at] += 1;
+        sink(format!("pair 0 - - - - - - {}", joined(&alone)));
+        sink(format!("pair 0 - - - - - - {}", joined(&more)));
+    }
+}
+
+/// Each list by itself, as long as a line may have it and one item longer; `@` is where it stands.
+fn lists(sink: Sink) {
+    let lists = [
+        (LINE_WORDS, "count 1 @ - - 0"),
+        (LINE_WORDS, "count 1 - @ - 0"),
+        (LINE_ROWS, "count 0 - - @ 0"),
+        (LINE_WORDS, "act 1 0 0 0 0 @"),
+        (LINE_WORDS, "pair 1 - - - @ - - 0,0,0,0"),
+        (LINE_WORDS, "pair 1 - - - - @ - 0,0,0,0"),
+        (LINE_ROWS, "pair 0 - - - - - @ 0,0,0,0"),
+        (LINE_LIST, "reduce 1 1 1 0 @ - - 0"),
+        (LINE_LIST, "reduce 1 1 1 0 - @ - 0"),
+        (LINE_LIST, "reduce 1 1 1 0 - - @ 0"),
+        (LINE_LIST, "check 1 1 1 0 @ - - - 1 1 0"),
+        (LINE_LIST, "check 1 1 1 0 - @ - - 1 1 0"),
+        (LINE_LIST, "check 1 1 1 0 - - @ - 1 1 0"),
+        (LINE_LOG, "check 1 1 1 0 - - - @ 1 1 0"),
+        (LINE_WORDS, "check 1 - - - - - - - @ - -"),
+        (LINE_WORDS, "check 1 - - - - - - - - @ -"),
+        (LINE_ROWS, "check 0 - - - - - - - - - @"),
+        (LINE_TERMS, "elemi 1 @ - - - 0 0"),
+        (LINE_TERMS, "elemi 1 - @ - - 0 0"),
+        (LINE_TERMS, "elemi 1 - - @ - 0 0"),
+        (LINE_TERMS, "elemi 1 - - - @ 0 0"),
+        (LINE_TERMS, "elemf 1 - - @ - 0 0"),
+        (LINE_TERMS, "elemf 1 - - - @ 0 0"),
+    ];
+    for (most, line) in lists {
+        sink(line.replace('@', &joined(&vec![0; most])));
+        sink(line.replace('@', &joined(&vec![0; most + 1])));
+    }
+}
