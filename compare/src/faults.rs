@@ -131,7 +131,7 @@ fn bytes(case: &mut Case, i: usize) -> &mut Vec<u8> {
 
 fn shorts(case: &mut Case, i: usize) -> &mut Vec<u16> {
     match &mut case.fields[i] {
-        Field::Shorts(v) => v,
+        Field::Shorts(v) | Field::Pairs(v) => v,
         _ => unreachable!("field {i} of {}", case.call),
     }
 }

@@ -31,6 +31,25 @@ pub fn all(sink: Sink) {
     each_field(sink, ends);
     lengths(sink);
     lists(sink);
+    logs(sink);
+}
+
+/// Logs as `reduce` prints them and flat, and what is neither; as many entries as a line has, and one more.
+fn logs(sink: Sink) {
+    let log = |text: &str| format!("check 1 1,1 0,1 0,3 0,1 0 1 {text} 1,0 0,1 0,2");
+    let of_the_form = ["1:0", "1,0", "-", "0:1,1:0,0:0", "1:0,1:0", "65535:0", "1:65535", "1:2", "2:0", "001:000"];
+    let not = [
+        "1", "1:", ":0", ":", "1:0:1", "1:0:1:0", "1:0,", ",1:0", "1:0,,1:0", "1:0,1,0", "1,0,1:0", "1:0,1", "1,1:0",
+        "1:0,-", "-,1:0", "-:-", "-1:0", "1:-0", "1:+0", "1;0", "1:0;1:0", "1::0", "65536:0", "1:65536", "1:a", "1.0",
+    ];
+    of_the_form.iter().chain(&not).for_each(|text| sink(log(text)));
+    for digits in [16, 17, 20, 21] {
+        sink(log(&format!("{:0>digits$}:0", 1)));
+        sink(log(&format!("1:{:0>digits$}", 0)));
+    }
+    for entries in [LINE_LOG / 2, LINE_LOG / 2 + 1] {
+        sink(log(&joined(&vec!["0:0"; entries])));
+    }
 }
 
 /// Every field of every line with each of its other texts.

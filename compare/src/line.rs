@@ -9,6 +9,8 @@ pub enum Field {
     Words(Vec<u64>),
     Bytes(Vec<u8>),
     Shorts(Vec<u16>),
+    /// The units of a log, to be written as target:source where they are even.
+    Pairs(Vec<u16>),
     Ints(Vec<i32>),
     Letter(char),
     Lengths([u64; 4]),
@@ -71,7 +73,7 @@ impl Case {
 
     pub fn shorts(&self, i: usize) -> &[u16] {
         match &self.fields[i] {
-            Field::Shorts(v) => v,
+            Field::Shorts(v) | Field::Pairs(v) => v,
             _ => unreachable!("field {i} of {}", self.call),
         }
     }
@@ -119,13 +121,13 @@ pub fn kinds_of(call: &str) -> std::str::Chars<'static> {
 }
 
 fn field(kind: char, text: &str) -> Option<Field> {
-    let short = |s: &str| decimal(s, 65535).map(|v| v as u16);
     Some(match kind {
         'n' => Field::Number(decimal(text, u64::MAX)?),
         'w' => Field::Word(hex(text)?),
         'W' => Field::Words(list(text, LINE_WORDS, hex)?),
         'B' => Field::Bytes(list(text, LINE_ROWS, |s| decimal(s, 255).map(|v| v as u8))?),
         'S' => Field::Shorts(list(text, LINE_LIST, short)?),
+        'G' if text.contains(':') => Field::Pairs(list(text, LINE_LOG / 2, pair)?.concat()),
         'G' => Field::Shorts(list(text, LINE_LOG, short)?),
         'V' => Field::Words(list(text, LINE_TERMS, hex)?),
         'I' => Field::Ints(list(text, LINE_TERMS, int)?),
@@ -134,6 +136,16 @@ fn field(kind: char, text: &str) -> Option<Field> {
         'u' => Field::Number(decimal(text, LINE_LOG as u64)?),
         _ => Field::Lengths(lengths(text)?),
     })
+}
+
+fn short(text: &str) -> Option<u16> {
+    decimal(text, 65535).map(|v| v as u16)
+}
+
+/// An entry of a log, as `reduce` writes it.
+fn pair(text: &str) -> Option<[u16; 2]> {
+    let (target, source) = text.split_once(':')?;
+    Some([short(target)?, short(source)?])
 }
 
 /// A list of at most so many items.
@@ -190,7 +202,10 @@ fn written(field: &Field) -> String {
         Field::Word(v) => format!("{v:x}"),
         Field::Words(v) => hexes(v),
         Field::Bytes(v) => joined(v),
-        Field::Shorts(v) => joined(v),
+        Field::Pairs(v) if v.len() % 2 == 0 => {
+            joined(&v.chunks(2).map(|entry| format!("{}:{}", entry[0], entry[1])).collect::<Vec<_>>())
+        }
+        Field::Shorts(v) | Field::Pairs(v) => joined(v),
         Field::Ints(v) => joined(v),
         Field::Letter(v) => v.to_string(),
         Field::Lengths(v) => joined(v),

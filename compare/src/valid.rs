@@ -211,7 +211,7 @@ fn reduction(random: &mut Random, n: usize, rows: &[Row]) -> Vec<Field> {
     [lists.fields(), vec![Field::Number(units)]].concat()
 }
 
-/// A log and a claim, whole or damaged in one place.
+/// A log in either form and a claim, whole or damaged in one place.
 fn check(random: &mut Random, n: usize, start: &[Row]) -> Vec<Field> {
     let mut lists = lists(random, n, start.len());
     let mut claim = start.to_vec();
@@ -220,7 +220,8 @@ fn check(random: &mut Random, n: usize, start: &[Row]) -> Vec<Field> {
     damage(random, n, start, &mut lists, &mut log, &mut claim);
     let claimed = packed(n, &claim);
     let claimed = vec![Field::Words(claimed.x), Field::Words(claimed.z), Field::Bytes(claimed.p)];
-    [lists.fields(), vec![Field::Shorts(log)], claimed].concat()
+    let log = if random.chance(500) { Field::Pairs(log) } else { Field::Shorts(log) };
+    [lists.fields(), vec![log], claimed].concat()
 }
 
 fn damage(

@@ -205,9 +205,7 @@ fn replayed(mut set: Set, log: &[(usize, usize)]) -> Set {
 /// The Rust has no checker. The rows that a log leads to are its own products.
 fn replay(set: Set, f: &mut Fields) -> Option<String> {
     let (_order, _listed, _extra) = (f.text()?, f.text()?, f.text()?);
-    let units = f.numbers::<usize>()?;
-    let log = units.chunks(2).map(|pair| (pair[0], pair[1])).collect::<Vec<_>>();
-    Some(format!("replay {}", set_text(&replayed(set, &log))))
+    Some(format!("replay {}", set_text(&replayed(set, &f.log()?))))
 }
 
 /// The terms of a matrix element, with where each block of equal X words starts: in the Rust a map that the caller

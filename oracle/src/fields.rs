@@ -32,6 +32,12 @@ impl<'a> Fields<'a> {
         list(self.text()?, |s| s.parse().ok())
     }
 
+    /// A log, its units with commas or its entries as `target:source`.
+    pub fn log(&mut self) -> Option<Vec<(usize, usize)>> {
+        let units: Vec<usize> = list(&self.text()?.replace(':', ","), |s| s.parse().ok())?;
+        Some(units.chunks(2).map(|pair| (pair[0], pair[1])).collect())
+    }
+
     /// The fields X Z P as rows with phases.
     pub fn set(&mut self, n: usize) -> Option<Terms<ComplexSign>> {
         let x = self.words()?;
