@@ -8,6 +8,7 @@ use crate::{forms, malformed, valid, whole};
 pub fn all(seed: u64, count: u64, sink: Sink) {
     small::all(sink);
     forms::all(sink);
+    forms::longest(sink);
     whole::all(seed, count / 10, sink);
     for i in 0..count {
         sink(random_line(&mut Random::of(seed, i)));

@@ -1,9 +1,12 @@
 //! Lines at the edges of the form: zeros before a number up to one digit too many, each kind of number at its ends, and
 //! every list and lent length as long as a line may have it, and one longer.
 
-use crate::limits::{LINE_LIST, LINE_LOG, LINE_ROWS, LINE_TERMS, LINE_WORDS};
-use crate::line::{joined, kinds_of};
+use crate::limits::{LINE_LIST, LINE_LOG, LINE_ROWS, LINE_TERMS, LINE_WORDS, ROWS, TERMS};
+use crate::line::{joined, kinds_of, Case, Field};
+use crate::random::Random;
+use crate::rows::Set;
 use crate::small::Sink;
+use crate::valid::call_on;
 
 /// A sound line of each call, with something in every list.
 const LINES: [&str; 17] = [
@@ -50,6 +53,19 @@ fn logs(sink: Sink) {
     for entries in [LINE_LOG / 2, LINE_LOG / 2 + 1] {
         sink(log(&joined(&vec!["0:0"; entries])));
     }
+}
+
+/// The longest lines and answers, too long for a file: as many terms as are taken, each item of full length, and as many
+/// rows and entries of a log as a line holds.
+pub fn longest(sink: Sink) {
+    let terms = |word: u64| Field::Words(vec![word; TERMS]);
+    let one = 1f64.to_bits();
+    let head = vec![Field::Number(64), terms(u64::MAX), terms(1 << 63), terms(one), terms(one | 1 << 63)];
+    sink(Case::new("elemf", [head, vec![Field::Word(u64::MAX), Field::Word(0)]].concat()).line());
+    let mut random = Random::of(10, 0);
+    let mut words = || (0..ROWS).map(|_| random.word() | 1 << 63).collect();
+    let set = Set { x: words(), z: words(), p: (0..ROWS).map(|row| row as u8 & 3).collect() };
+    sink(call_on("reduceall", 64, &set, vec![Field::Number(LINE_LOG as u64)]).line());
 }
 
 /// Every field of every line with each of its other texts.

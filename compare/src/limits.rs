@@ -3,6 +3,7 @@
 
 pub const QUBITS: usize = 4096;
 pub const ROWS: usize = 4096;
+pub const TERMS: usize = 65536;
 
 /// As many phase bytes of a set as a line has, or lends.
 pub const LINE_ROWS: usize = ROWS + 64;

@@ -1,7 +1,7 @@
 //! Document 01 in plain words: every line gets its answer, refusals included. Written from the document and its
 //! readings alone.
 
-use crate::limits::{QUBITS, ROWS};
+use crate::limits::{QUBITS, ROWS, TERMS};
 use crate::line::{hexes, joined, parsed, Case, Field};
 use crate::reduction::{first_bad, is_reduced, reduce, replay, Lists};
 use crate::rows::*;
@@ -127,7 +127,7 @@ fn refusal_of_terms(case: &Case) -> Option<u8> {
     let above = move |word: u64| n < 64 && word >> n != 0;
     first_fitting(vec![
         (1, Box::new(move || n < 1 || n > 64)),
-        (2, Box::new(|| x.len() > 65536)),
+        (2, Box::new(|| x.len() > TERMS)),
         (3, Box::new(|| z.len() != x.len() || parts(case) != [x.len(); 2])),
         (4, Box::new(move || [x, z, &[case.number(5), case.number(6)]].concat().into_iter().any(above))),
         (10, Box::new(|| x.windows(2).any(|pair| pair[0] > pair[1]))),
