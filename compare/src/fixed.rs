@@ -1,8 +1,8 @@
 //! The fixed list: some thousands of lines with their answers, the Rust's where it has one and the model's elsewhere.
 
 use crate::compare::{agrees_with_rust, asked, rust_answers, Said};
-use crate::limits::{QUBITS, ROWS, WORDS_IN_REACH};
-use crate::line::{is_case, Case, Field, CALLS};
+use crate::limits::{QUBITS, ROWS, TERMS, WORDS_IN_REACH};
+use crate::line::{is_case, joined, Case, Field, CALLS};
 use crate::model;
 use crate::random::Random;
 use crate::rows::{packed, words_for, Pauli, Row, Set};
@@ -432,8 +432,8 @@ fn elements(out: &mut Vec<String>) {
         ],
     );
     out.push("# 65,536 terms and 65,537".to_string());
-    out.push(plain_terms("elemi", 65536).line());
-    out.push(plain_terms("elemf", 65537).line());
+    out.push(plain_terms("elemi", TERMS).line());
+    out.push(format!("elemf 1 {} - - - 0 1", joined(&vec![0; TERMS + 1])));
 }
 
 fn all_small(out: &mut Vec<String>) {
@@ -476,7 +476,7 @@ fn edges_of_the_form(out: &mut Vec<String>) {
     let what = "digits, ends of each kind of number, lists and lengths as long as a line has them";
     out.push(format!("# the edges of the form: {what}"));
     // a file of text has no carriage returns
-    forms::all(&mut |line| out.extend(Some(line).filter(|line| !line.contains('\r'))));
+    forms::few(&mut |line| out.extend(Some(line).filter(|line| !line.contains('\r'))));
 }
 
 fn random(out: &mut Vec<String>) {

@@ -30,16 +30,44 @@ const LINES: [&str; 17] = [
 ];
 
 pub fn all(sink: Sink) {
+    short(sink);
+    for (most, line) in LISTS {
+        sink(zeros(line, most));
+        sink(zeros(line, most + 1));
+    }
+    for entries in [LINE_LOG / 2, LINE_LOG / 2 + 1] {
+        sink(log(&joined(&vec!["0:0"; entries])));
+    }
+}
+
+/// Those that a file has room for: of the long lists one of each limit, of terms the one too long, of logs none.
+pub fn few(sink: Sink) {
+    short(sink);
+    let mut seen = vec![];
+    for (most, line) in LISTS {
+        if most < LINE_LOG && !seen.contains(&most) {
+            seen.push(most);
+            if most < LINE_TERMS {
+                sink(zeros(line, most));
+            }
+            sink(zeros(line, most + 1));
+        }
+    }
+}
+
+fn short(sink: Sink) {
     each_field(sink, digits);
     each_field(sink, ends);
     lengths(sink);
-    lists(sink);
     logs(sink);
 }
 
-/// Logs as `reduce` prints them and flat, and what is neither; as many entries as a line has, and one more.
+fn log(text: &str) -> String {
+    format!("check 1 1,1 0,1 0,3 0,1 0 1 {text} 1,0 0,1 0,2")
+}
+
+/// Logs as `reduce` prints them and flat, and what is neither.
 fn logs(sink: Sink) {
-    let log = |text: &str| format!("check 1 1,1 0,1 0,3 0,1 0 1 {text} 1,0 0,1 0,2");
     let of_the_form = ["1:0", "1,0", "-", "0:1,1:0,0:0", "1:0,1:0", "65535:0", "1:65535", "1:2", "2:0", "001:000"];
     let not = [
         "1", "1:", ":0", ":", "1:0:1", "1:0:1:0", "1:0,", ",1:0", "1:0,,1:0", "1:0,1,0", "1,0,1:0", "1:0,1", "1,1:0",
@@ -49,9 +77,6 @@ fn logs(sink: Sink) {
     for digits in [16, 17, 20, 21] {
         sink(log(&format!("{:0>digits$}:0", 1)));
         sink(log(&format!("1:{:0>digits$}", 0)));
-    }
-    for entries in [LINE_LOG / 2, LINE_LOG / 2 + 1] {
-        sink(log(&joined(&vec!["0:0"; entries])));
     }
 }
 
@@ -139,34 +164,32 @@ fn lengths(sink: Sink) {
 }
 
 /// Each list by itself, as long as a line may have it and one item longer; `@` is where it stands.
-fn lists(sink: Sink) {
-    let lists = [
-        (LINE_WORDS, "count 1 @ - - 0"),
-        (LINE_WORDS, "count 1 - @ - 0"),
-        (LINE_ROWS, "count 0 - - @ 0"),
-        (LINE_WORDS, "act 1 0 0 0 0 @"),
-        (LINE_WORDS, "pair 1 - - - @ - - 0,0,0,0"),
-        (LINE_WORDS, "pair 1 - - - - @ - 0,0,0,0"),
-        (LINE_ROWS, "pair 0 - - - - - @ 0,0,0,0"),
-        (LINE_LIST, "reduce 1 1 1 0 @ - - 0"),
-        (LINE_LIST, "reduce 1 1 1 0 - @ - 0"),
-        (LINE_LIST, "reduce 1 1 1 0 - - @ 0"),
-        (LINE_LIST, "check 1 1 1 0 @ - - - 1 1 0"),
-        (LINE_LIST, "check 1 1 1 0 - @ - - 1 1 0"),
-        (LINE_LIST, "check 1 1 1 0 - - @ - 1 1 0"),
-        (LINE_LOG, "check 1 1 1 0 - - - @ 1 1 0"),
-        (LINE_WORDS, "check 1 - - - - - - - @ - -"),
-        (LINE_WORDS, "check 1 - - - - - - - - @ -"),
-        (LINE_ROWS, "check 0 - - - - - - - - - @"),
-        (LINE_TERMS, "elemi 1 @ - - - 0 0"),
-        (LINE_TERMS, "elemi 1 - @ - - 0 0"),
-        (LINE_TERMS, "elemi 1 - - @ - 0 0"),
-        (LINE_TERMS, "elemi 1 - - - @ 0 0"),
-        (LINE_TERMS, "elemf 1 - - @ - 0 0"),
-        (LINE_TERMS, "elemf 1 - - - @ 0 0"),
-    ];
-    for (most, line) in lists {
-        sink(line.replace('@', &joined(&vec![0; most])));
-        sink(line.replace('@', &joined(&vec![0; most + 1])));
-    }
+const LISTS: [(usize, &str); 23] = [
+    (LINE_WORDS, "count 1 @ - - 0"),
+    (LINE_WORDS, "count 1 - @ - 0"),
+    (LINE_ROWS, "count 0 - - @ 0"),
+    (LINE_WORDS, "act 1 0 0 0 0 @"),
+    (LINE_WORDS, "pair 1 - - - @ - - 0,0,0,0"),
+    (LINE_WORDS, "pair 1 - - - - @ - 0,0,0,0"),
+    (LINE_ROWS, "pair 0 - - - - - @ 0,0,0,0"),
+    (LINE_LIST, "reduce 1 1 1 0 @ - - 0"),
+    (LINE_LIST, "reduce 1 1 1 0 - @ - 0"),
+    (LINE_LIST, "reduce 1 1 1 0 - - @ 0"),
+    (LINE_LIST, "check 1 1 1 0 @ - - - 1 1 0"),
+    (LINE_LIST, "check 1 1 1 0 - @ - - 1 1 0"),
+    (LINE_LIST, "check 1 1 1 0 - - @ - 1 1 0"),
+    (LINE_LOG, "check 1 1 1 0 - - - @ 1 1 0"),
+    (LINE_WORDS, "check 1 - - - - - - - @ - -"),
+    (LINE_WORDS, "check 1 - - - - - - - - @ -"),
+    (LINE_ROWS, "check 0 - - - - - - - - - @"),
+    (LINE_TERMS, "elemi 1 @ - - - 0 0"),
+    (LINE_TERMS, "elemi 1 - @ - - 0 0"),
+    (LINE_TERMS, "elemi 1 - - @ - 0 0"),
+    (LINE_TERMS, "elemi 1 - - - @ 0 0"),
+    (LINE_TERMS, "elemf 1 - - @ - 0 0"),
+    (LINE_TERMS, "elemf 1 - - - @ 0 0"),
+];
+
+fn zeros(line: &str, many: usize) -> String {
+    line.replace('@', &joined(&vec![0; many]))
 }
