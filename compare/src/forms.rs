@@ -1,8 +1,8 @@
 //! Lines at the edges of the form: zeros before a number up to one digit too many, each kind of number at its ends, and
 //! every list and lent length as long as a line may have it, and one longer.
 
-use crate::limits::{LINE_LIST, LINE_LOG, LINE_ROWS, LINE_TERMS, LINE_WORDS, ROWS, TERMS};
-use crate::line::{joined, kinds_of, Case, Field};
+use crate::limits::{LINE, LINE_LIST, LINE_LOG, LINE_ROWS, LINE_TERMS, LINE_WORDS, ROWS, TERMS};
+use crate::line::{joined, kinds_of, Field};
 use crate::random::Random;
 use crate::rows::Set;
 use crate::small::Sink;
@@ -80,17 +80,31 @@ fn logs(sink: Sink) {
     }
 }
 
-/// The longest lines and answers, too long for a file: as many terms as are taken, each item of full length, and as many
-/// rows and entries of a log as a line holds.
+/// The longest lines and answers, too long for a file: as many terms as are taken, in a line as long as one may be and in
+/// one a byte longer, and as many rows and entries of a log as a line holds.
 pub fn longest(sink: Sink) {
-    let terms = |word: u64| Field::Words(vec![word; TERMS]);
-    let one = 1f64.to_bits();
-    let head = vec![Field::Number(64), terms(u64::MAX), terms(1 << 63), terms(one), terms(one | 1 << 63)];
-    sink(Case::new("elemf", [head, vec![Field::Word(u64::MAX), Field::Word(0)]].concat()).line());
+    sink(terms_in(LINE - 1));
+    sink(terms_in(LINE));
     let mut random = Random::of(10, 0);
     let mut words = || (0..ROWS).map(|_| random.word() | 1 << 63).collect();
     let set = Set { x: words(), z: words(), p: (0..ROWS).map(|row| row as u8 & 3).collect() };
     sink(call_on("reduceall", 64, &set, vec![Field::Number(LINE_LOG as u64)]).line());
+}
+
+/// A line of so many bytes with as many terms as are taken, Z words with zeros before them as the length asks.
+fn terms_in(bytes: usize) -> String {
+    let terms = |text: &str| joined(&vec![text; TERMS]);
+    let part = format!("{:x}", 1f64.to_bits());
+    let line = |z: String| {
+        format!("elemf 64 {} {z} {} {} ffffffffffffffff 0", terms("ffffffffffffffff"), terms(&part), terms(&part))
+    };
+    let mut left = bytes - line(terms("1")).len();
+    let zeros = std::iter::repeat_with(move || {
+        let some = left.min(15);
+        left -= some;
+        "0".repeat(some) + "1"
+    });
+    line(joined(&zeros.take(TERMS).collect::<Vec<_>>()))
 }
 
 /// Every field of every line with each of its other texts.

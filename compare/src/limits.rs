@@ -5,6 +5,9 @@ pub const QUBITS: usize = 4096;
 pub const ROWS: usize = 4096;
 pub const TERMS: usize = 65536;
 
+/// Bytes of a line, its end among them.
+pub const LINE: usize = 3_500_000;
+
 /// As many phase bytes of a set as a line has, or lends.
 pub const LINE_ROWS: usize = ROWS + 64;
 
