@@ -7,7 +7,8 @@ ghost use Rattle.pauli.specs.declared.PauliMatrix.the-variants.{I};
 ghost use Rattle.pauli.specs.Rows.{phaseOf, commute, central, countOf, withQubit};
 ghost use Rattle.encoding.specs.Limits.{maxQubits, maxRows, maxWords, wordsOf};
 ghost use Rattle.encoding.specs.Words.{word, unpack};
-ghost use Rattle.encoding.specs.Set.{mem, rowsOf, lay, Sound};
+ghost use Rattle.encoding.specs.Set.{rowsOf, lay, Sound};
+ghost use Rattle.encoding.specs.Lent.{lent, before, after};
 ghost use Rattle.encoding.specs.Refusals.{fault, joined, setTests, outTests, stateTests};
 ghost use Rattle.products.specs.Leaves.{SameLength, ProductAt};
 ghost use Rattle.cmpnt_list.specs.Calls.{readFault, matrixTests, matrixFault, laidMatrix, commuting, otherLengths, pairs, pairNumbers, getQubit, SetQubit, countIn, phaseOfMul, commutesWith, belongsToCentralizer, CompatibilityMatrix, MulPairwise, ImulState};
@@ -48,8 +49,8 @@ struct Span(usize, usize);
 
 // The first number of the table that fits a set that is read and its call's numbers, or 0; large says that a number is too large.
 fn row_fault(n: usize, x: &[u64], z: &[u64], phases: &[u8], large: bool) -> u8
-    ensures { λ r. ⌜ r ≡ readFault n (mem (now (x .entry)) (now (z .entry)) (now (phases .entry))) large ⌝ }
-    ensures none { λ r. ⌜ (r ≡ 0 → Asked n (mem (now (x .entry)) (now (z .entry)) (now (phases .entry))) large) ⌝ }
+    ensures { λ r. ⌜ r ≡ readFault n (before x z phases) large ⌝ }
+    ensures none { λ r. ⌜ (r ≡ 0 → Asked n (before x z phases) large) ⌝ }
 {
     encoding::smaller(
         encoding::set_fault(n, x, z, phases),
@@ -76,9 +77,9 @@ fn read_qubit(
     r: RowNumber,
     q: QubitNumber,
 ) -> PauliMatrix
-    requires { ⌜ Sound n (mem (now x) (now z) (now phases)) ⌝ }
+    requires { ⌜ Sound n (lent x z phases) ⌝ }
     requires { ⌜ (r .0 < length (now phases)) × (q .0 < n) ⌝ }
-    ensures { λ p. ⌜ p ≡ getD (rowsOf n (mem (now (x .entry)) (now (z .entry)) (now (phases .entry))) (r .0) .ps) (q .0) I ⌝ }
+    ensures { λ p. ⌜ p ≡ getD (rowsOf n (before x z phases) (r .0) .ps) (q .0) I ⌝ }
 {
     let s = row_span(r.0, n, phases.len());
     let a = s.0;
@@ -95,7 +96,7 @@ pub fn get_qubit(
     row: RowNumber,
     qubit: QubitNumber,
 ) -> Got
-    ensures { λ a. ⌜ a ≡ getQubit n (mem (now (x .entry)) (now (z .entry)) (now (phases .entry))) (row .0) (qubit .0) ⌝ }
+    ensures { λ a. ⌜ a ≡ getQubit n (before x z phases) (row .0) (qubit .0) ⌝ }
 {
     let a = phases.len() <= row.0;
     let b = n <= qubit.0;
@@ -116,9 +117,9 @@ fn write_qubit(
     q: QubitNumber,
     pauli: PauliMatrix,
 )
-    requires { ⌜ Sound n (mem (now x) (now z) (now phases)) ⌝ }
+    requires { ⌜ Sound n (lent x z phases) ⌝ }
     requires { ⌜ (r .0 < length (now phases)) × (q .0 < n) ⌝ }
-    ensures { λ _. ⌜ mem (now (x .exit)) (now (z .exit)) (now (phases .entry)) ≡ lay n (length (now (phases .entry))) (withQubit (rowsOf n (mem (now (x .entry)) (now (z .entry)) (now (phases .entry)))) (r .0) (q .0) pauli) ⌝ }
+    ensures { λ _. ⌜ after x z phases ≡ lay n (length (now (phases .entry))) (withQubit (rowsOf n (before x z phases)) (r .0) (q .0) pauli) ⌝ }
 {
     let s = row_span(r.0, n, phases.len());
     let a = s.0;
@@ -136,7 +137,7 @@ pub fn set_qubit(
     qubit: QubitNumber,
     pauli: PauliMatrix,
 ) -> Answer
-    ensures { λ a. ⌜ SetQubit n (mem (now (x .entry)) (now (z .entry)) (now (phases .entry))) (row .0) (qubit .0) pauli (mem (now (x .exit)) (now (z .exit)) (now (phases .entry))) a ⌝ }
+    ensures { λ a. ⌜ SetQubit n (before x z phases) (row .0) (qubit .0) pauli (after x z phases) a ⌝ }
 {
     let a = phases.len() <= row.0;
     let b = n <= qubit.0;
@@ -198,9 +199,9 @@ fn from_masks(p: PauliMatrix, n: usize, k: u64) -> u64
 
 // The number of qubits of row r that hold the Pauli.
 fn count_in(n: usize, x: &[u64], z: &[u64], phases: &[u8], r: usize, pauli: PauliMatrix) -> u64
-    requires { ⌜ Sound n (mem (now x) (now z) (now phases)) ⌝ }
+    requires { ⌜ Sound n (lent x z phases) ⌝ }
     requires { ⌜ r < length (now phases) ⌝ }
-    ensures { λ k. ⌜ k ≡ countOf n pauli (rowsOf n (mem (now (x .entry)) (now (z .entry)) (now (phases .entry))) r) ⌝ }
+    ensures { λ k. ⌜ k ≡ countOf n pauli (rowsOf n (before x z phases) r) ⌝ }
 {
     let s = row_span(r, n, phases.len());
     let a = s.0;
@@ -218,7 +219,7 @@ pub fn count(
     row: RowNumber,
     pauli: PauliMatrix,
 ) -> Tally
-    ensures { λ a. ⌜ a ≡ countIn n (mem (now (x .entry)) (now (z .entry)) (now (phases .entry))) (row .0) pauli ⌝ }
+    ensures { λ a. ⌜ a ≡ countIn n (before x z phases) (row .0) pauli ⌝ }
 {
     let f = row_fault(n, x, z, phases, phases.len() <= row.0);
     if f != 0 {
@@ -229,9 +230,9 @@ pub fn count(
 
 // The exponent of the product of rows a and b.
 fn phase_rows(n: usize, x: &[u64], z: &[u64], phases: &[u8], a: usize, b: usize) -> ComplexSign
-    requires { ⌜ Sound n (mem (now x) (now z) (now phases)) ⌝ }
+    requires { ⌜ Sound n (lent x z phases) ⌝ }
     requires { ⌜ (a < length (now phases)) × (b < length (now phases)) ⌝ }
-    ensures { λ r. ⌜ r .0 ≡ phaseOf n (rowsOf n (mem (now (x .entry)) (now (z .entry)) (now (phases .entry))) a) (rowsOf n (mem (now (x .entry)) (now (z .entry)) (now (phases .entry))) b) ⌝ }
+    ensures { λ r. ⌜ r .0 ≡ phaseOf n (rowsOf n (before x z phases) a) (rowsOf n (before x z phases) b) ⌝ }
 {
     let s = row_span(a, n, phases.len());
     let t = row_span(b, n, phases.len());
@@ -252,7 +253,7 @@ pub fn phase_of_mul(
     a: RowNumber,
     b: RowNumber,
 ) -> Phase
-    ensures { λ r. ⌜ r ≡ phaseOfMul n (mem (now (x .entry)) (now (z .entry)) (now (phases .entry))) (a .0) (b .0) ⌝ }
+    ensures { λ r. ⌜ r ≡ phaseOfMul n (before x z phases) (a .0) (b .0) ⌝ }
 {
     let i = phases.len() <= a.0;
     let j = phases.len() <= b.0;
@@ -265,9 +266,9 @@ pub fn phase_of_mul(
 
 // Whether rows a and b commute.
 fn commute_rows(n: usize, x: &[u64], z: &[u64], phases: &[u8], a: usize, b: usize) -> bool
-    requires { ⌜ Sound n (mem (now x) (now z) (now phases)) ⌝ }
+    requires { ⌜ Sound n (lent x z phases) ⌝ }
     requires { ⌜ (a < length (now phases)) × (b < length (now phases)) ⌝ }
-    ensures { λ r. ⌜ r ≡ commute n (rowsOf n (mem (now (x .entry)) (now (z .entry)) (now (phases .entry))) a) (rowsOf n (mem (now (x .entry)) (now (z .entry)) (now (phases .entry))) b) ⌝ }
+    ensures { λ r. ⌜ r ≡ commute n (rowsOf n (before x z phases) a) (rowsOf n (before x z phases) b) ⌝ }
 {
     let s = row_span(a, n, phases.len());
     let t = row_span(b, n, phases.len());
@@ -287,7 +288,7 @@ pub fn commutes_with(
     a: RowNumber,
     b: RowNumber,
 ) -> Truth
-    ensures { λ r. ⌜ r ≡ commutesWith n (mem (now (x .entry)) (now (z .entry)) (now (phases .entry))) (a .0) (b .0) ⌝ }
+    ensures { λ r. ⌜ r ≡ commutesWith n (before x z phases) (a .0) (b .0) ⌝ }
 {
     let i = phases.len() <= a.0;
     let j = phases.len() <= b.0;
@@ -300,9 +301,9 @@ pub fn commutes_with(
 
 // Whether row r commutes with every row.
 fn central_row(n: usize, x: &[u64], z: &[u64], phases: &[u8], r: usize) -> bool
-    requires { ⌜ Sound n (mem (now x) (now z) (now phases)) ⌝ }
+    requires { ⌜ Sound n (lent x z phases) ⌝ }
     requires { ⌜ r < length (now phases) ⌝ }
-    ensures { λ b. ⌜ b ≡ central n (length (now (phases .entry))) (rowsOf n (mem (now (x .entry)) (now (z .entry)) (now (phases .entry)))) r ⌝ }
+    ensures { λ b. ⌜ b ≡ central n (length (now (phases .entry))) (rowsOf n (before x z phases)) r ⌝ }
 {
     let m = phases.len();
     let mut k = 0;
@@ -323,7 +324,7 @@ pub fn belongs_to_centralizer(
     phases: &[u8],
     row: RowNumber,
 ) -> Truth
-    ensures { λ a. ⌜ a ≡ belongsToCentralizer n (mem (now (x .entry)) (now (z .entry)) (now (phases .entry))) (row .0) ⌝ }
+    ensures { λ a. ⌜ a ≡ belongsToCentralizer n (before x z phases) (row .0) ⌝ }
 {
     let f = row_fault(n, x, z, phases, phases.len() <= row.0);
     if f != 0 {
@@ -352,8 +353,8 @@ fn square_fault(m: usize, size: usize) -> u8
 
 // The same of a set that is read and the matrix of its rows.
 fn matrix_fault(n: usize, x: &[u64], z: &[u64], phases: &[u8], size: usize) -> u8
-    ensures { λ r. ⌜ r ≡ matrixFault n (mem (now (x .entry)) (now (z .entry)) (now (phases .entry))) size ⌝ }
-    ensures none { λ r. ⌜ (r ≡ 0 → AskedMatrix n (mem (now (x .entry)) (now (z .entry)) (now (phases .entry))) size) ⌝ }
+    ensures { λ r. ⌜ r ≡ matrixFault n (before x z phases) size ⌝ }
+    ensures none { λ r. ⌜ (r ≡ 0 → AskedMatrix n (before x z phases) size) ⌝ }
 {
     encoding::smaller(
         encoding::set_fault(n, x, z, phases),
@@ -363,9 +364,9 @@ fn matrix_fault(n: usize, x: &[u64], z: &[u64], phases: &[u8], size: usize) -> u
 
 // The matrix of a set's rows.
 fn fill_matrix(n: usize, x: &[u64], z: &[u64], phases: &[u8], out: &mut [u64])
-    requires { ⌜ Sound n (mem (now x) (now z) (now phases)) ⌝ }
+    requires { ⌜ Sound n (lent x z phases) ⌝ }
     requires { ⌜ length (now out) ≡ length (now phases) * wordsOf (length (now phases)) ⌝ }
-    ensures { λ _. ⌜ now (out .exit) ≡ laidMatrix (length (now (phases .entry))) (commuting n (mem (now (x .entry)) (now (z .entry)) (now (phases .entry)))) ⌝ }
+    ensures { λ _. ⌜ now (out .exit) ≡ laidMatrix (length (now (phases .entry))) (commuting n (before x z phases)) ⌝ }
 {
     let w = encoding::words(n);
     matrix::fill(x, z, w, phases.len(), out);
@@ -379,7 +380,7 @@ pub fn compatibility_matrix(
     phases: &[u8],
     out: &mut [u64],
 ) -> Answer
-    ensures { λ a. ⌜ CompatibilityMatrix n (mem (now (x .entry)) (now (z .entry)) (now (phases .entry))) (now (out .entry)) (now (out .exit)) a ⌝ }
+    ensures { λ a. ⌜ CompatibilityMatrix n (before x z phases) (now (out .entry)) (now (out .exit)) a ⌝ }
 {
     let f = matrix_fault(n, x, z, phases, out.len());
     if f != 0 {
@@ -391,8 +392,8 @@ pub fn compatibility_matrix(
 
 // The first number of the table that fits two sets that are read, or 0.
 fn both_fault(n: usize, lx: &[u64], lz: &[u64], lp: &[u8], rx: &[u64], rz: &[u64], rp: &[u8]) -> u8
-    ensures { λ r. ⌜ r ≡ fault (joined (setTests n (mem (now (lx .entry)) (now (lz .entry)) (now (lp .entry)))) (setTests n (mem (now (rx .entry)) (now (rz .entry)) (now (rp .entry))))) ⌝ }
-    ensures none { λ r. ⌜ (r ≡ 0 → BothReady n (mem (now (lx .entry)) (now (lz .entry)) (now (lp .entry))) (mem (now (rx .entry)) (now (rz .entry)) (now (rp .entry)))) ⌝ }
+    ensures { λ r. ⌜ r ≡ fault (joined (setTests n (before lx lz lp)) (setTests n (before rx rz rp))) ⌝ }
+    ensures none { λ r. ⌜ (r ≡ 0 → BothReady n (before lx lz lp) (before rx rz rp)) ⌝ }
 {
     encoding::smaller(
         encoding::set_fault(n, lx, lz, lp),
@@ -402,8 +403,8 @@ fn both_fault(n: usize, lx: &[u64], lz: &[u64], lp: &[u8], rx: &[u64], rz: &[u64
 
 // The first number that fits a left set of m rows, a right one of k, q lent numbers, and a third set that is written, or 0.
 fn third_fault(n: usize, m: usize, k: usize, q: usize, ox: &[u64], oz: &[u64], op: &[u8]) -> u8
-    ensures { λ r. ⌜ r ≡ fault (joined (otherLengths m k q) (outTests n m (mem (now (ox .entry)) (now (oz .entry)) (now (op .entry))))) ⌝ }
-    ensures none { λ r. ⌜ (r ≡ 0 → ThirdReady n m k q (mem (now (ox .entry)) (now (oz .entry)) (now (op .entry)))) ⌝ }
+    ensures { λ r. ⌜ r ≡ fault (joined (otherLengths m k q) (outTests n m (before ox oz op))) ⌝ }
+    ensures none { λ r. ⌜ (r ≡ 0 → ThirdReady n m k q (before ox oz op)) ⌝ }
 {
     let a = k != m;
     let b = q != m;
@@ -426,7 +427,8 @@ fn mul_part(
 ) -> Factor
     requires { ⌜ (a ≤ e) × (e ≤ length (now lx)) ⌝ }
     requires { ⌜ SameLength (length (now lx)) (now lx) (now lz) (now rx) (now rz) (now ox) (now oz) ⌝ }
-    ensures { λ r. ⌜ ProductAt a e (now (lx .entry)) (now (lz .entry)) (now (rx .entry)) (now (rz .entry)) (now (ox .entry)) (now (oz .entry)) (now (ox .exit)) (now (oz .exit)) r ⌝ }
+    ensures { λ r. ⌜ ProductAt a e (now (lx .entry)) (now (lz .entry)) (now (rx .entry)) (now (rz .entry)) (now (ox .entry)) (now (oz .entry))
+        (now (ox .exit)) (now (oz .exit)) r ⌝ }
 {
     products::mul_op_op(
         &lx[a..e],
@@ -452,9 +454,10 @@ fn mul_rows(
     op: &mut [u8],
     clashes: &mut [u16],
 )
-    requires { ⌜ BothReady n (mem (now lx) (now lz) (now lp)) (mem (now rx) (now rz) (now rp)) ⌝ }
-    requires { ⌜ ThirdReady n (length (now lp)) (length (now rp)) (length (now clashes)) (mem (now ox) (now oz) (now op)) ⌝ }
-    ensures { λ _. ⌜ (mem (now (ox .exit)) (now (oz .exit)) (now (op .exit)) ≡ lay n (length (now (lp .entry))) (pairs n (mem (now (lx .entry)) (now (lz .entry)) (now (lp .entry))) (mem (now (rx .entry)) (now (rz .entry)) (now (rp .entry))))) × (now (clashes .exit) ≡ pairNumbers n (mem (now (lx .entry)) (now (lz .entry)) (now (lp .entry))) (mem (now (rx .entry)) (now (rz .entry)) (now (rp .entry)))) ⌝ }
+    requires { ⌜ BothReady n (lent lx lz lp) (lent rx rz rp) ⌝ }
+    requires { ⌜ ThirdReady n (length (now lp)) (length (now rp)) (length (now clashes)) (lent ox oz op) ⌝ }
+    ensures { λ _. ⌜ (after ox oz op ≡ lay n (length (now (lp .entry))) (pairs n (before lx lz lp) (before rx rz rp))) ×
+        (now (clashes .exit) ≡ pairNumbers n (before lx lz lp) (before rx rz rp)) ⌝ }
 {
     let m = op.len();
     let mut r = 0;
@@ -487,7 +490,8 @@ pub fn cmpnts_mul_pairwise(
     op: &mut [u8],
     clashes: &mut [u16],
 ) -> Answer
-    ensures { λ a. ⌜ MulPairwise n (mem (now (lx .entry)) (now (lz .entry)) (now (lp .entry))) (mem (now (rx .entry)) (now (rz .entry)) (now (rp .entry))) (mem (now (ox .entry)) (now (oz .entry)) (now (op .entry))) (mem (now (ox .exit)) (now (oz .exit)) (now (op .exit))) (now (clashes .entry)) (now (clashes .exit)) a ⌝ }
+    ensures { λ a. ⌜ MulPairwise n (before lx lz lp) (before rx rz rp) (before ox oz op) (after ox oz op) (now (clashes .entry))
+        (now (clashes .exit)) a ⌝ }
 {
     let f = encoding::smaller(
         both_fault(n, lx, lz, lp, rx, rz, rp),
@@ -502,9 +506,9 @@ pub fn cmpnts_mul_pairwise(
 
 // Row r acts on a basis state.
 fn act_on(n: usize, x: &[u64], z: &[u64], phases: &[u8], r: usize, state: &mut [u64]) -> ComplexSign
-    requires { ⌜ Sound n (mem (now x) (now z) (now phases)) ⌝ }
+    requires { ⌜ Sound n (lent x z phases) ⌝ }
     requires { ⌜ (r < length (now phases)) × (fault (stateTests n (now state)) ≡ 0) ⌝ }
-    ensures { λ e. ⌜ StateActed n (rowsOf n (mem (now (x .entry)) (now (z .entry)) (now (phases .entry))) r) (now (state .entry)) (now (state .exit)) (e .0) ⌝ }
+    ensures { λ e. ⌜ StateActed n (rowsOf n (before x z phases) r) (now (state .entry)) (now (state .exit)) (e .0) ⌝ }
 {
     let s = row_span(r, n, phases.len());
     let a = s.0;
@@ -521,7 +525,7 @@ pub fn imul_state(
     row: RowNumber,
     state: &mut [u64],
 ) -> Phase
-    ensures { λ a. ⌜ ImulState n (mem (now (x .entry)) (now (z .entry)) (now (phases .entry))) (row .0) (now (state .entry)) (now (state .exit)) a ⌝ }
+    ensures { λ a. ⌜ ImulState n (before x z phases) (row .0) (now (state .entry)) (now (state .exit)) a ⌝ }
 {
     let f = encoding::smaller(
         row_fault(n, x, z, phases, phases.len() <= row.0),

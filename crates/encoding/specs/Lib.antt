@@ -1,4 +1,5 @@
 pub mod Limits
 pub mod Words
 pub mod Set
+pub mod Lent
 pub mod Refusals

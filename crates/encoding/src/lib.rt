@@ -8,7 +8,8 @@ ghost use lib.ListN.{length, getD, drop, set};
 ghost use Rattle.pauli.specs.Pauli.{ofBits, hasX, hasZ};
 ghost use Rattle.encoding.specs.Limits.{maxQubits, maxRows, maxWords, wordsOf};
 ghost use Rattle.encoding.specs.Words.{odd, bitAt, withBit, word, unpack};
-ghost use Rattle.encoding.specs.Set.{mem, Valid, QubitSet};
+ghost use Rattle.encoding.specs.Set.{Valid, QubitSet};
+ghost use Rattle.encoding.specs.Lent.{before};
 ghost use Rattle.pauli.specs.declared.PauliMatrix.the-variants.{I};
 ghost use Rattle.encoding.specs.Refusals.{fault, least, some, isOn, badLengths, badBits, badPhases, setTests, outTests, stateTests};
 use pauli::PauliMatrix;
@@ -124,8 +125,8 @@ pub fn smaller(a: u8, b: u8) -> u8
 
 // The first number of the table that fits a set that is read, or 0; then it is a row set.
 pub fn set_fault(n: usize, x: &[u64], z: &[u64], p: &[u8]) -> u8
-    ensures { λ r. ⌜ r ≡ fault (setTests n (mem (now (x .entry)) (now (z .entry)) (now (p .entry)))) ⌝ }
-    ensures valid { λ r. ⌜ (r ≡ 0 → Valid n (wordsOf n) (mem (now (x .entry)) (now (z .entry)) (now (p .entry)))) ⌝ }
+    ensures { λ r. ⌜ r ≡ fault (setTests n (before x z p)) ⌝ }
+    ensures valid { λ r. ⌜ (r ≡ 0 → Valid n (wordsOf n) (before x z p)) ⌝ }
 {
     let m = p.len();
     if MAX_QUBITS < n {
@@ -143,7 +144,7 @@ pub fn set_fault(n: usize, x: &[u64], z: &[u64], p: &[u8]) -> u8
 
 // The same of a set that is written only and has to have m rows.
 pub fn out_fault(n: usize, m: usize, x: &[u64], z: &[u64], p: &[u8]) -> u8
-    ensures { λ r. ⌜ r ≡ fault (outTests n m (mem (now (x .entry)) (now (z .entry)) (now (p .entry)))) ⌝ }
+    ensures { λ r. ⌜ r ≡ fault (outTests n m (before x z p)) ⌝ }
 {
     let k = p.len();
     if MAX_QUBITS < n {

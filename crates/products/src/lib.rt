@@ -152,7 +152,8 @@ fn mul_first(
     oz: &mut [u64],
 ) -> Factor
     requires { ⌜ k ≡ shortest₆ (now lx) (now lz) (now rx) (now rz) (now ox) (now oz) ⌝ }
-    ensures { λ r. ⌜ ProductAt 0 k (now (lx .entry)) (now (lz .entry)) (now (rx .entry)) (now (rz .entry)) (now (ox .entry)) (now (oz .entry)) (now (ox .exit)) (now (oz .exit)) r ⌝ }
+    ensures { λ r. ⌜ ProductAt 0 k (now (lx .entry)) (now (lz .entry)) (now (rx .entry)) (now (rz .entry)) (now (ox .entry)) (now (oz .entry))
+        (now (ox .exit)) (now (oz .exit)) r ⌝ }
 {
     mul_row(
         &lx[0..k],
@@ -173,7 +174,8 @@ pub fn mul_op_op(
     ox: &mut [u64],
     oz: &mut [u64],
 ) -> Factor
-    ensures { λ r. ⌜ RowProduct (now (lx .entry)) (now (lz .entry)) (now (rx .entry)) (now (rz .entry)) (now (ox .entry)) (now (oz .entry)) (now (ox .exit)) (now (oz .exit)) r ⌝ }
+    ensures { λ r. ⌜ RowProduct (now (lx .entry)) (now (lz .entry)) (now (rx .entry)) (now (rz .entry)) (now (ox .entry)) (now (oz .entry))
+        (now (ox .exit)) (now (oz .exit)) r ⌝ }
 {
     let a = shorter(ox.len(), oz.len());
     let b = shorter(rz.len(), a);

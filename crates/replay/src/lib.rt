@@ -3,7 +3,7 @@ ghost use mathlib.Core.Path.{_≡_};
 ghost use mathlib.Core.Bool.{not};
 ghost use mathlib.Core.List.{[], _∷_};
 ghost use lib.Dec.{eqb};
-ghost use Rattle.encoding.specs.Set.{mem};
+ghost use Rattle.encoding.specs.Lent.{lent, before, after};
 ghost use Rattle.encoding.specs.Refusals.{fault};
 ghost use Rattle.terms.specs.Ranks.{byRank, line};
 ghost use Rattle.replay.specs.Check.{task, claim, claimTests, oddLog, ClaimPassed, Passed, given, verdictOn, Checked};
@@ -30,8 +30,8 @@ pub enum Verdict {
 
 // The first number of the table that fits rows claimed of m rows of n qubits, or 0.
 fn claim_fault(n: usize, m: usize, cx: &[u64], cz: &[u64], cphases: &[u8]) -> u8
-    ensures { λ r. ⌜ r ≡ fault (claimTests n m (mem (now (cx .entry)) (now (cz .entry)) (now (cphases .entry)))) ⌝ }
-    ensures passed { λ r. ⌜ (r ≡ 0 → ClaimPassed n m (mem (now (cx .entry)) (now (cz .entry)) (now (cphases .entry)))) ⌝ }
+    ensures { λ r. ⌜ r ≡ fault (claimTests n m (before cx cz cphases)) ⌝ }
+    ensures passed { λ r. ⌜ (r ≡ 0 → ClaimPassed n m (before cx cz cphases)) ⌝ }
 {
     let f = set_fault(n, cx, cz, cphases);
     let other = cphases.len() != m;
@@ -60,10 +60,10 @@ fn compare(
     cz: &[u64],
     cphases: &[u8],
 ) -> Verdict
-    requires { ⌜ Passed (task n (mem (now x) (now z) (now phases)) (now order) (now listed) (now extra))
-        (mem (now cx) (now cz) (now cphases)) ⌝ }
-    ensures { λ r. ⌜ r ≡ given (verdictOn (task n (mem (now (x .entry)) (now (z .entry)) (now (phases .entry))) (now (order .entry)) (now (listed .entry)) (now (extra .entry)))
-        (claim [] (mem (now (cx .entry)) (now (cz .entry)) (now (cphases .entry))))) ⌝ }
+    requires { ⌜ Passed (task n (lent x z phases) (now order) (now listed) (now extra))
+        (lent cx cz cphases) ⌝ }
+    ensures { λ r. ⌜ r ≡ given (verdictOn (task n (before x z phases) (now (order .entry)) (now (listed .entry)) (now (extra .entry)))
+        (claim [] (before cx cz cphases))) ⌝ }
 {
     let d = rows::first_diff(n, x, z, phases, cx, cz, cphases);
     if d < phases.len() {
@@ -89,10 +89,10 @@ fn judge(
     cz: &[u64],
     cphases: &[u8],
 ) -> Verdict
-    requires { ⌜ Passed (task n (mem (now x) (now z) (now phases)) (now order) (now listed) (now extra))
-        (mem (now cx) (now cz) (now cphases)) ⌝ }
-    ensures { λ r. ⌜ Judged (task n (mem (now (x .entry)) (now (z .entry)) (now (phases .entry))) (now (order .entry)) (now (listed .entry)) (now (extra .entry)))
-        (claim (now (log .entry)) (mem (now (cx .entry)) (now (cz .entry)) (now (cphases .entry)))) r (mem (now (x .exit)) (now (z .exit)) (now (phases .exit))) ⌝ }
+    requires { ⌜ Passed (task n (lent x z phases) (now order) (now listed) (now extra))
+        (lent cx cz cphases) ⌝ }
+    ensures { λ r. ⌜ Judged (task n (before x z phases) (now (order .entry)) (now (listed .entry)) (now (extra .entry)))
+        (claim (now (log .entry)) (before cx cz cphases)) r (after x z phases) ⌝ }
 {
     let h = log.len() / 2;
     let b = entries::first_bad(log, listed, extra);
@@ -117,8 +117,8 @@ pub fn check(
     cz: &[u64],
     cphases: &[u8],
 ) -> Verdict
-    ensures { λ r. ⌜ Checked (task n (mem (now (x .entry)) (now (z .entry)) (now (phases .entry))) (now (order .entry)) (now (listed .entry)) (now (extra .entry)))
-        (claim (now (log .entry)) (mem (now (cx .entry)) (now (cz .entry)) (now (cphases .entry)))) r (mem (now (x .exit)) (now (z .exit)) (now (phases .exit))) ⌝ }
+    ensures { λ r. ⌜ Checked (task n (before x z phases) (now (order .entry)) (now (listed .entry)) (now (extra .entry)))
+        (claim (now (log .entry)) (before cx cz cphases)) r (after x z phases) ⌝ }
 {
     let a = reduce_fault(n, x, z, phases, order, listed, extra);
     let b = claim_fault(n, phases.len(), cx, cz, cphases);

@@ -5,7 +5,8 @@ ghost use Prim.Native.Nat.{_+_, _*_, _/_, _≤_, _<_};
 ghost use lib.ListN.{length, take};
 ghost use Rattle.encoding.specs.Limits.{wordsOf};
 ghost use Rattle.pauli.specs.Row.{sameRow};
-ghost use Rattle.encoding.specs.Set.{row, mem, rowsOf, Valid};
+ghost use Rattle.encoding.specs.Set.{row, rowsOf, Valid};
+ghost use Rattle.encoding.specs.Lent.{lent, before, after};
 ghost use Rattle.reduction.specs.Log.{pairs};
 ghost use Rattle.reduction.specs.Checker.{firstDiff};
 ghost use Rattle.replay.specs.Steps.{redone, placeOf};
@@ -15,8 +16,8 @@ use terms::rows::imul_unchecked;
 // The first k entries are done to the rows, one after another.
 pub(crate) fn redo(n: usize, x: &mut [u64], z: &mut [u64], phases: &mut [u8], log: &[u16], k: usize)
     requires { ⌜ k ≤ length (now log) / 2 ⌝ }
-    ensures { λ _. ⌜ mem (now (x .exit)) (now (z .exit)) (now (phases .exit))
-        ≡ redone n (take k (pairs (now (log .entry)))) (mem (now (x .entry)) (now (z .entry)) (now (phases .entry))) ⌝ }
+    ensures { λ _. ⌜ after x z phases
+        ≡ redone n (take k (pairs (now (log .entry)))) (before x z phases) ⌝ }
 {
     let mut i = 0;
     while i < k {
@@ -57,11 +58,11 @@ fn same_row(
     cphases: &[u8],
     k: usize,
 ) -> bool
-    requires { ⌜ Valid n (wordsOf n) (mem (now x) (now z) (now phases)) ⌝ }
-    requires { ⌜ Valid n (wordsOf n) (mem (now cx) (now cz) (now cphases)) ⌝ }
+    requires { ⌜ Valid n (wordsOf n) (lent x z phases) ⌝ }
+    requires { ⌜ Valid n (wordsOf n) (lent cx cz cphases) ⌝ }
     requires { ⌜ (length (now phases) ≡ length (now cphases)) × (k < length (now phases)) ⌝ }
-    ensures { λ r. ⌜ r ≡ sameRow n (rowsOf n (mem (now (x .entry)) (now (z .entry)) (now (phases .entry))) k)
-        (rowsOf n (mem (now (cx .entry)) (now (cz .entry)) (now (cphases .entry))) k) ⌝ }
+    ensures { λ r. ⌜ r ≡ sameRow n (rowsOf n (before x z phases) k)
+        (rowsOf n (before cx cz cphases) k) ⌝ }
 {
     let w = encoding::words(n);
     if !same_words(w, x, cx, k) {
@@ -83,11 +84,11 @@ pub(crate) fn first_diff(
     cz: &[u64],
     cphases: &[u8],
 ) -> usize
-    requires { ⌜ Valid n (wordsOf n) (mem (now x) (now z) (now phases)) ⌝ }
-    requires { ⌜ Valid n (wordsOf n) (mem (now cx) (now cz) (now cphases)) ⌝ }
+    requires { ⌜ Valid n (wordsOf n) (lent x z phases) ⌝ }
+    requires { ⌜ Valid n (wordsOf n) (lent cx cz cphases) ⌝ }
     requires { ⌜ length (now phases) ≡ length (now cphases) ⌝ }
     ensures { λ r. ⌜ placeOf (length (now (phases .entry))) r ≡ firstDiff (sameRow n)
-        (rowsOf n (mem (now (x .entry)) (now (z .entry)) (now (phases .entry)))) (rowsOf n (mem (now (cx .entry)) (now (cz .entry)) (now (cphases .entry)))) 0 (length (now (phases .entry))) ⌝ }
+        (rowsOf n (before x z phases)) (rowsOf n (before cx cz cphases)) 0 (length (now (phases .entry))) ⌝ }
 {
     let mut i = 0;
     while i < phases.len() {

@@ -1,6 +1,6 @@
 // The calls that are measured, exported under names that begin with the crate's: thin, each under the contract of the call itself.
 ghost use mathlib.Core.Path.{_≡_};
-ghost use Rattle.encoding.specs.Set.{mem};
+ghost use Rattle.encoding.specs.Lent.{before, after};
 ghost use Rattle.cmpnt_list.specs.Calls.{CompatibilityMatrix, MulPairwise};
 ghost use Rattle.terms.specs.Calls.{Multiplies, ReducesAll, reducedNumber};
 ghost use Rattle.replay.specs.Check.{task, claim};
@@ -40,7 +40,7 @@ pub extern "C" fn speed_compatibility_matrix(
     phases: &[u8],
     out: &mut [u64],
 ) -> u8
-    ensures { λ r. ⌜ Told (CompatibilityMatrix n (mem (now (x .entry)) (now (z .entry)) (now (phases .entry))) (now (out .entry)) (now (out .exit))) (Number r) ⌝ }
+    ensures { λ r. ⌜ Told (CompatibilityMatrix n (before x z phases) (now (out .entry)) (now (out .exit))) (Number r) ⌝ }
 {
     number(cmpnt_list::compatibility_matrix(n, x, z, phases, out))
 }
@@ -59,7 +59,8 @@ pub extern "C" fn speed_cmpnts_mul_pairwise(
     op: &mut [u8],
     clashes: &mut [u16],
 ) -> u8
-    ensures { λ r. ⌜ Told (MulPairwise n (mem (now (lx .entry)) (now (lz .entry)) (now (lp .entry))) (mem (now (rx .entry)) (now (rz .entry)) (now (rp .entry))) (mem (now (ox .entry)) (now (oz .entry)) (now (op .entry))) (mem (now (ox .exit)) (now (oz .exit)) (now (op .exit))) (now (clashes .entry)) (now (clashes .exit))) (Number r) ⌝ }
+    ensures { λ r. ⌜ Told (MulPairwise n (before lx lz lp) (before rx rz rp) (before ox oz op) (after ox oz op) (now (clashes .entry))
+        (now (clashes .exit))) (Number r) ⌝ }
 {
     number(cmpnt_list::cmpnts_mul_pairwise(n, lx, lz, lp, rx, rz, rp, ox, oz, op, clashes))
 }
@@ -92,7 +93,7 @@ pub extern "C" fn speed_imul(
     b: usize,
     clashes: &mut u16,
 ) -> u8
-    ensures { λ r. ⌜ Told (Multiplies n a b (mem (now (x .entry)) (now (z .entry)) (now (phases .entry))) (mem (now (x .exit)) (now (z .exit)) (now (phases .exit)))) (Multiplied (now (clashes .entry)) (now (clashes .exit)) r) ⌝ }
+    ensures { λ r. ⌜ Told (Multiplies n a b (before x z phases) (after x z phases)) (Multiplied (now (clashes .entry)) (now (clashes .exit)) r) ⌝ }
 {
     let d = terms::imul(n, x, z, phases, RowNumber(a), RowNumber(b));
     let s = multiplied(d, *clashes);
@@ -139,7 +140,8 @@ pub extern "C" fn speed_canonicalize_all(
     entries: &mut usize,
     t: &mut usize,
 ) -> u8
-    ensures { λ r. ⌜ Told (ReducesAll n (mem (now (x .entry)) (now (z .entry)) (now (phases .entry))) (now (log .entry)) (mem (now (x .exit)) (now (z .exit)) (now (phases .exit))) (now (log .exit))) (Counted (now (entries .entry)) (now (t .entry)) (now (entries .exit)) (now (t .exit)) r) ⌝ }
+    ensures { λ r. ⌜ Told (ReducesAll n (before x z phases) (now (log .entry)) (after x z phases) (now (log .exit)))
+        (Counted (now (entries .entry)) (now (t .entry)) (now (entries .exit)) (now (t .exit)) r) ⌝ }
 {
     let a = terms::canonicalize_all(n, x, z, phases, log);
     let c = counted(a, *entries, *t);
@@ -190,8 +192,8 @@ pub extern "C" fn speed_check(
     cphases: &[u8],
     place: &mut usize,
 ) -> u8
-    ensures { λ r. ⌜ Told (CheckedOn (task n (mem (now (x .entry)) (now (z .entry)) (now (phases .entry))) (now (order .entry)) (now (listed .entry)) (now (extra .entry)))
-        (claim (now (log .entry)) (mem (now (cx .entry)) (now (cz .entry)) (now (cphases .entry)))) (mem (now (x .exit)) (now (z .exit)) (now (phases .exit)))) (Placed (now (place .entry)) (now (place .exit)) r) ⌝ }
+    ensures { λ r. ⌜ Told (CheckedOn (task n (before x z phases) (now (order .entry)) (now (listed .entry)) (now (extra .entry)))
+        (claim (now (log .entry)) (before cx cz cphases)) (after x z phases)) (Placed (now (place .entry)) (now (place .exit)) r) ⌝ }
 {
     let v = replay::check(n, x, z, phases, order, listed, extra, log, cx, cz, cphases);
     let s = placed(v, *place);
@@ -232,7 +234,8 @@ pub extern "C" fn speed_mat_elem_cmpnts_from_presorted(
     real: &mut f64,
     imag: &mut f64,
 ) -> u8
-    ensures { λ r. ⌜ Told (MatElem n (now (x .entry)) (now (z .entry)) (now (re .entry)) (now (im .entry)) bra ket) (Parted (now (real .entry)) (now (imag .entry)) (now (real .exit)) (now (imag .exit)) r) ⌝ }
+    ensures { λ r. ⌜ Told (MatElem n (now (x .entry)) (now (z .entry)) (now (re .entry)) (now (im .entry)) bra ket)
+        (Parted (now (real .entry)) (now (imag .entry)) (now (real .exit)) (now (imag .exit)) r) ⌝ }
 {
     let a = mat_elem_float::mat_elem_cmpnts_from_presorted(n, x, z, re, im, bra, ket);
     let p = parted(a, *real, *imag);

@@ -2,7 +2,8 @@
 ghost use mathlib.Core.Path.{_≡_};
 ghost use Prim.Native.Nat.{_+_, _≤_};
 ghost use lib.ListN.{length};
-ghost use Rattle.encoding.specs.Set.{mem, Sound};
+ghost use Rattle.encoding.specs.Set.{Sound};
+ghost use Rattle.encoding.specs.Lent.{lent, before, after};
 ghost use Rattle.encoding.specs.Limits.{maxQubits, maxRows};
 ghost use Rattle.encoding.specs.Refusals.{fault, rowsTests};
 ghost use Rattle.terms.specs.Refused.{reduceFault, Reducible};
@@ -33,8 +34,8 @@ pub enum Clashes {
 
 // The first number of the table that fits a set and two row numbers, or 0.
 fn imul_fault(n: usize, x: &[u64], z: &[u64], phases: &[u8], a: usize, b: usize) -> u8
-    ensures { λ r. ⌜ r ≡ fault (rowsTests n (mem (now (x .entry)) (now (z .entry)) (now (phases .entry))) a b) ⌝ }
-    ensures both { λ r. ⌜ (r ≡ 0 → BothIn n a b (mem (now (x .entry)) (now (z .entry)) (now (phases .entry)))) ⌝ }
+    ensures { λ r. ⌜ r ≡ fault (rowsTests n (before x z phases) a b) ⌝ }
+    ensures both { λ r. ⌜ (r ≡ 0 → BothIn n a b (before x z phases)) ⌝ }
 {
     let m = phases.len();
     let large = (m <= a) | (m <= b);
@@ -51,7 +52,7 @@ pub fn imul(
     a: RowNumber,
     b: RowNumber,
 ) -> Clashes
-    ensures { λ r. ⌜ Multiplies n (a .0) (b .0) (mem (now (x .entry)) (now (z .entry)) (now (phases .entry))) (mem (now (x .exit)) (now (z .exit)) (now (phases .exit))) r ⌝ }
+    ensures { λ r. ⌜ Multiplies n (a .0) (b .0) (before x z phases) (after x z phases) r ⌝ }
 {
     let f = imul_fault(n, x, z, phases, a.0, b.0);
     if f != 0 {
@@ -71,8 +72,8 @@ pub fn reduce_fault(
     listed: &[u16],
     extra: &[u16],
 ) -> u8
-    ensures { λ r. ⌜ r ≡ reduceFault n (mem (now (x .entry)) (now (z .entry)) (now (phases .entry))) (now (order .entry)) (now (listed .entry)) (now (extra .entry)) ⌝ }
-    ensures passed { λ r. ⌜ (r ≡ 0 → Reducible n (now (order .entry)) (now (listed .entry)) (now (extra .entry)) (mem (now (x .entry)) (now (z .entry)) (now (phases .entry)))) ⌝ }
+    ensures { λ r. ⌜ r ≡ reduceFault n (before x z phases) (now (order .entry)) (now (listed .entry)) (now (extra .entry)) ⌝ }
+    ensures passed { λ r. ⌜ (r ≡ 0 → Reducible n (now (order .entry)) (now (listed .entry)) (now (extra .entry)) (before x z phases)) ⌝ }
 {
     let f = encoding::set_fault(n, x, z, phases);
     if f != 0 {
@@ -92,9 +93,9 @@ fn reduced(
     extra: &[u16],
     log: &mut [u16],
 ) -> Canonicalized
-    requires { ⌜ ListsIn n (now order) (now listed) (now extra) (mem (now x) (now z) (now phases)) ⌝ }
-    ensures { λ r. ⌜ Leaves n 0 (outcomeOf n (now (order .entry)) (now (listed .entry)) (now (extra .entry)) (mem (now (x .entry)) (now (z .entry)) (now (phases .entry))) (now (log .entry)))
-        (mem (now (x .entry)) (now (z .entry)) (now (phases .entry))) (now (log .entry)) (mem (now (x .exit)) (now (z .exit)) (now (phases .exit))) (now (log .exit)) r ⌝ }
+    requires { ⌜ ListsIn n (now order) (now listed) (now extra) (lent x z phases) ⌝ }
+    ensures { λ r. ⌜ Leaves n 0 (outcomeOf n (now (order .entry)) (now (listed .entry)) (now (extra .entry)) (before x z phases) (now (log .entry)))
+        (before x z phases) (now (log .entry)) (after x z phases) (now (log .exit)) r ⌝ }
 {
     let s = reduce::columns(n, x, z, phases, log, order, listed, extra);
     if s.full {
@@ -116,7 +117,8 @@ pub fn canonicalize(
     extra: &[u16],
     log: &mut [u16],
 ) -> Canonicalized
-    ensures { λ r. ⌜ Reduces n (now (order .entry)) (now (listed .entry)) (now (extra .entry)) (mem (now (x .entry)) (now (z .entry)) (now (phases .entry))) (now (log .entry)) (mem (now (x .exit)) (now (z .exit)) (now (phases .exit))) (now (log .exit)) r ⌝ }
+    ensures { λ r. ⌜ Reduces n (now (order .entry)) (now (listed .entry)) (now (extra .entry)) (before x z phases) (now (log .entry))
+        (after x z phases) (now (log .exit)) r ⌝ }
 {
     let f = reduce_fault(n, x, z, phases, order, listed, extra);
     if f != 0 {
@@ -148,10 +150,10 @@ fn reduced_by(
     rows: &[u16],
     log: &mut [u16],
 ) -> Canonicalized
-    requires { ⌜ Sound n (mem (now x) (now z) (now phases)) ⌝ }
+    requires { ⌜ Sound n (lent x z phases) ⌝ }
     requires { ⌜ (now columns ≡ upTo (maxQubits + maxQubits)) × (now rows ≡ upTo maxRows) ⌝ }
-    ensures { λ r. ⌜ Leaves n 0 (wholeOutcome n (mem (now (x .entry)) (now (z .entry)) (now (phases .entry))) (now (log .entry)))
-        (mem (now (x .entry)) (now (z .entry)) (now (phases .entry))) (now (log .entry)) (mem (now (x .exit)) (now (z .exit)) (now (phases .exit))) (now (log .exit)) r ⌝ }
+    ensures { λ r. ⌜ Leaves n 0 (wholeOutcome n (before x z phases) (now (log .entry)))
+        (before x z phases) (now (log .entry)) (after x z phases) (now (log .exit)) r ⌝ }
 {
     let k = n + n;
     let m = phases.len();
@@ -175,9 +177,9 @@ fn reduced_all(
     phases: &mut [u8],
     log: &mut [u16],
 ) -> Canonicalized
-    requires { ⌜ Sound n (mem (now x) (now z) (now phases)) ⌝ }
-    ensures { λ r. ⌜ Leaves n 0 (wholeOutcome n (mem (now (x .entry)) (now (z .entry)) (now (phases .entry))) (now (log .entry)))
-        (mem (now (x .entry)) (now (z .entry)) (now (phases .entry))) (now (log .entry)) (mem (now (x .exit)) (now (z .exit)) (now (phases .exit))) (now (log .exit)) r ⌝ }
+    requires { ⌜ Sound n (lent x z phases) ⌝ }
+    ensures { λ r. ⌜ Leaves n 0 (wholeOutcome n (before x z phases) (now (log .entry)))
+        (before x z phases) (now (log .entry)) (after x z phases) (now (log .exit)) r ⌝ }
 {
     let mut columns = [0u16; MAX_COLUMNS];
     count_up(&mut columns);
@@ -194,7 +196,7 @@ pub fn canonicalize_all(
     phases: &mut [u8],
     log: &mut [u16],
 ) -> Canonicalized
-    ensures { λ r. ⌜ ReducesAll n (mem (now (x .entry)) (now (z .entry)) (now (phases .entry))) (now (log .entry)) (mem (now (x .exit)) (now (z .exit)) (now (phases .exit))) (now (log .exit)) r ⌝ }
+    ensures { λ r. ⌜ ReducesAll n (before x z phases) (now (log .entry)) (after x z phases) (now (log .exit)) r ⌝ }
 {
     let f = encoding::set_fault(n, x, z, phases);
     if f != 0 {

@@ -4,7 +4,8 @@ ghost use mathlib.Core.List.{_++_};
 ghost use Prim.Native.Nat.{_+_, _≤_, _<_};
 ghost use lib.ListN.{length};
 ghost use Rattle.pauli.specs.Row.{mulRow, bitRow};
-ghost use Rattle.encoding.specs.Set.{mem, Sound};
+ghost use Rattle.encoding.specs.Set.{Sound};
+ghost use Rattle.encoding.specs.Lent.{lent, before, after};
 ghost use Rattle.reduction.specs.Log.{capacity};
 ghost use Rattle.reduction.specs.Twin.{through, multiplyC, turnC, leadC, pivotC, columnC};
 ghost use Rattle.terms.specs.Work.{Below, Ready, start, Does};
@@ -31,9 +32,10 @@ fn put(
     a: u16,
     b: u16,
 ) -> Progress
-    requires { ⌜ Ready n (mem (now x) (now z) (now p)) (now log) s ⌝ }
+    requires { ⌜ Ready n (lent x z p) (now log) s ⌝ }
     requires { ⌜ (a < length (now p)) × (b < length (now p)) ⌝ }
-    ensures { λ r. ⌜ Does n (multiplyC (mulRow n) (capacity (now (log .entry))) a b) (mem (now (x .entry)) (now (z .entry)) (now (p .entry))) (now (log .entry)) s (mem (now (x .exit)) (now (z .exit)) (now (p .exit))) (now (log .exit)) r ⌝ }
+    ensures { λ r. ⌜ Does n (multiplyC (mulRow n) (capacity (now (log .entry))) a b) (before x z p) (now (log .entry)) s (after x z p)
+        (now (log .exit)) r ⌝ }
 {
     let k = s.entries;
     let t = s.t;
@@ -67,9 +69,10 @@ fn turn(
     pivot: u16,
     k: u16,
 ) -> Progress
-    requires { ⌜ Ready n (mem (now x) (now z) (now p)) (now log) s ⌝ }
+    requires { ⌜ Ready n (lent x z p) (now log) s ⌝ }
     requires { ⌜ (c < n + n) × (pivot < length (now p)) × (k < length (now p)) ⌝ }
-    ensures { λ r. ⌜ Does n (turnC (bitRow n) (mulRow n) (capacity (now (log .entry))) c pivot k) (mem (now (x .entry)) (now (z .entry)) (now (p .entry))) (now (log .entry)) s (mem (now (x .exit)) (now (z .exit)) (now (p .exit))) (now (log .exit)) r ⌝ }
+    ensures { λ r. ⌜ Does n (turnC (bitRow n) (mulRow n) (capacity (now (log .entry))) c pivot k) (before x z p) (now (log .entry)) s
+        (after x z p) (now (log .exit)) r ⌝ }
 {
     if k == pivot {
         return s;
@@ -92,9 +95,10 @@ fn clear(
     c: usize,
     pivot: u16,
 ) -> Progress
-    requires { ⌜ Ready n (mem (now x) (now z) (now p)) (now log) s ⌝ }
+    requires { ⌜ Ready n (lent x z p) (now log) s ⌝ }
     requires { ⌜ (c < n + n) × (pivot < length (now p)) × Below (length (now p)) (now list) ⌝ }
-    ensures { λ r. ⌜ Does n (through (turnC (bitRow n) (mulRow n) (capacity (now (log .entry))) c pivot) (now (list .entry))) (mem (now (x .entry)) (now (z .entry)) (now (p .entry))) (now (log .entry)) s (mem (now (x .exit)) (now (z .exit)) (now (p .exit))) (now (log .exit)) r ⌝ }
+    ensures { λ r. ⌜ Does n (through (turnC (bitRow n) (mulRow n) (capacity (now (log .entry))) c pivot) (now (list .entry))) (before x z p)
+        (now (log .entry)) s (after x z p) (now (log .exit)) r ⌝ }
 {
     let mut r = s;
     let mut i = 0;
@@ -119,9 +123,10 @@ fn lead(
     pivot: u16,
     found: u16,
 ) -> Progress
-    requires { ⌜ Ready n (mem (now x) (now z) (now p)) (now log) s ⌝ }
+    requires { ⌜ Ready n (lent x z p) (now log) s ⌝ }
     requires { ⌜ (pivot < length (now p)) × (found < length (now p)) ⌝ }
-    ensures { λ r. ⌜ Does n (leadC (bitRow n) (mulRow n) (capacity (now (log .entry))) pivot found) (mem (now (x .entry)) (now (z .entry)) (now (p .entry))) (now (log .entry)) s (mem (now (x .exit)) (now (z .exit)) (now (p .exit))) (now (log .exit)) r ⌝ }
+    ensures { λ r. ⌜ Does n (leadC (bitRow n) (mulRow n) (capacity (now (log .entry))) pivot found) (before x z p) (now (log .entry)) s
+        (after x z p) (now (log .exit)) r ⌝ }
 {
     if found == pivot {
         return s;
@@ -142,9 +147,10 @@ fn clear_both(
     c: usize,
     pivot: u16,
 ) -> Progress
-    requires { ⌜ Ready n (mem (now x) (now z) (now p)) (now log) s ⌝ }
+    requires { ⌜ Ready n (lent x z p) (now log) s ⌝ }
     requires { ⌜ (c < n + n) × (pivot < length (now p)) × Below (length (now p)) (now listed) × Below (length (now p)) (now extra) ⌝ }
-    ensures { λ r. ⌜ Does n (through (turnC (bitRow n) (mulRow n) (capacity (now (log .entry))) c pivot) (now (listed .entry) ++ now (extra .entry))) (mem (now (x .entry)) (now (z .entry)) (now (p .entry))) (now (log .entry)) s (mem (now (x .exit)) (now (z .exit)) (now (p .exit))) (now (log .exit)) r ⌝ }
+    ensures { λ r. ⌜ Does n (through (turnC (bitRow n) (mulRow n) (capacity (now (log .entry))) c pivot)
+        (now (listed .entry) ++ now (extra .entry))) (before x z p) (now (log .entry)) s (after x z p) (now (log .exit)) r ⌝ }
 {
     let r = clear(n, x, z, p, log, listed, s, c, pivot);
     if r.full {
@@ -167,9 +173,11 @@ fn pivot_by(
     pivot: u16,
     found: u16,
 ) -> Progress
-    requires { ⌜ Ready n (mem (now x) (now z) (now p)) (now log) s ⌝ }
-    requires { ⌜ (c < n + n) × (pivot < length (now p)) × (found < length (now p)) × Below (length (now p)) (now listed) × Below (length (now p)) (now extra) ⌝ }
-    ensures { λ r. ⌜ Does n (pivotC (bitRow n) (mulRow n) (capacity (now (log .entry))) (now (listed .entry) ++ now (extra .entry)) c pivot found) (mem (now (x .entry)) (now (z .entry)) (now (p .entry))) (now (log .entry)) s (mem (now (x .exit)) (now (z .exit)) (now (p .exit))) (now (log .exit)) r ⌝ }
+    requires { ⌜ Ready n (lent x z p) (now log) s ⌝ }
+    requires { ⌜ (c < n + n) × (pivot < length (now p)) × (found < length (now p)) × Below (length (now p)) (now listed)
+        × Below (length (now p)) (now extra) ⌝ }
+    ensures { λ r. ⌜ Does n (pivotC (bitRow n) (mulRow n) (capacity (now (log .entry)))
+        (now (listed .entry) ++ now (extra .entry)) c pivot found) (before x z p) (now (log .entry)) s (after x z p) (now (log .exit)) r ⌝ }
 {
     let r = lead(n, x, z, p, log, s, pivot, found);
     if r.full {
@@ -190,10 +198,11 @@ fn column(
     s: Progress,
     c: usize,
 ) -> Progress
-    requires { ⌜ Ready n (mem (now x) (now z) (now p)) (now log) s ⌝ }
+    requires { ⌜ Ready n (lent x z p) (now log) s ⌝ }
     requires { ⌜ (c < n + n) × (s .t ≤ length (now listed)) × Below (length (now p)) (now listed) × Below (length (now p)) (now extra) ⌝ }
     ensures { λ r. ⌜ r .t ≤ length (now (listed .entry)) ⌝ }
-    ensures { λ r. ⌜ Does n (columnC (bitRow n) (mulRow n) (capacity (now (log .entry))) (now (listed .entry)) (now (extra .entry)) c) (mem (now (x .entry)) (now (z .entry)) (now (p .entry))) (now (log .entry)) s (mem (now (x .exit)) (now (z .exit)) (now (p .exit))) (now (log .exit)) r ⌝ }
+    ensures { λ r. ⌜ Does n (columnC (bitRow n) (mulRow n) (capacity (now (log .entry))) (now (listed .entry)) (now (extra .entry)) c)
+        (before x z p) (now (log .entry)) s (after x z p) (now (log .exit)) r ⌝ }
 {
     let t = s.t;
     let f = find(n, x, z, listed, t, c);
@@ -227,9 +236,10 @@ pub(crate) fn columns(
     listed: &[u16],
     extra: &[u16],
 ) -> Progress
-    requires { ⌜ Sound n (mem (now x) (now z) (now p)) ⌝ }
+    requires { ⌜ Sound n (lent x z p) ⌝ }
     requires { ⌜ Below (n + n) (now order) × Below (length (now p)) (now listed) × Below (length (now p)) (now extra) ⌝ }
-    ensures { λ r. ⌜ Does n (through (columnC (bitRow n) (mulRow n) (capacity (now (log .entry))) (now (listed .entry)) (now (extra .entry))) (now (order .entry))) (mem (now (x .entry)) (now (z .entry)) (now (p .entry))) (now (log .entry)) start (mem (now (x .exit)) (now (z .exit)) (now (p .exit))) (now (log .exit)) r ⌝ }
+    ensures { λ r. ⌜ Does n (through (columnC (bitRow n) (mulRow n) (capacity (now (log .entry))) (now (listed .entry)) (now (extra .entry)))
+        (now (order .entry))) (before x z p) (now (log .entry)) start (after x z p) (now (log .exit)) r ⌝ }
 {
     let mut r = Progress {
         full: false,

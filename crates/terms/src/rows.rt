@@ -4,7 +4,8 @@ ghost use Prim.Native.Nat.{_+_, _/_, _%_, _<_, _≤_};
 ghost use lib.ListN.{drop};
 ghost use Rattle.encoding.specs.Limits.{maxRows, maxWords};
 ghost use Rattle.encoding.specs.Words.{bitAt};
-ghost use Rattle.encoding.specs.Set.{row, mem};
+ghost use Rattle.encoding.specs.Set.{row};
+ghost use Rattle.encoding.specs.Lent.{lent, before, after};
 ghost use Rattle.terms.specs.Leaves.{bitIn, firstPlace, mulIn, clashesIn, InRows, RowsMultiplied};
 use encoding::MAX_QUBITS;
 use encoding::MAX_ROWS;
@@ -55,8 +56,8 @@ pub fn find(n: usize, x: &[u64], z: &[u64], listed: &[u16], t: usize, c: usize) 
 
 // Row a is multiplied by row b; a and b may be the same. The number of clashes is returned.
 fn mul_rows(w: usize, x: &mut [u64], z: &mut [u64], p: &mut [u8], a: usize, b: usize) -> u16
-    requires { ⌜ InRows w a b (mem (now x) (now z) (now p)) ⌝ }
-    ensures { λ c. ⌜ RowsMultiplied w a b (mem (now (x .entry)) (now (z .entry)) (now (p .entry))) (mem (now (x .exit)) (now (z .exit)) (now (p .exit))) c ⌝ }
+    requires { ⌜ InRows w a b (lent x z p) ⌝ }
+    ensures { λ c. ⌜ RowsMultiplied w a b (before x z p) (after x z p) c ⌝ }
 {
     let f = products::imul_op_op(x, z, a * w, b * w, w);
     let e = f.phase;
@@ -74,8 +75,8 @@ pub fn imul_unchecked(
     a: RowNumber,
     b: RowNumber,
 ) -> u16
-    ensures { λ _. ⌜ mem (now (x .exit)) (now (z .exit)) (now (p .exit)) ≡ mulIn n (a .0) (b .0) (mem (now (x .entry)) (now (z .entry)) (now (p .entry))) ⌝ }
-    ensures number { λ c. ⌜ c ≡ clashesIn n (a .0) (b .0) (mem (now (x .entry)) (now (z .entry)) (now (p .entry))) ⌝ }
+    ensures { λ _. ⌜ after x z p ≡ mulIn n (a .0) (b .0) (before x z p) ⌝ }
+    ensures number { λ c. ⌜ c ≡ clashesIn n (a .0) (b .0) (before x z p) ⌝ }
 {
     let m = p.len();
     if encoding::out_fault(n, m, x, z, p) != 0 {

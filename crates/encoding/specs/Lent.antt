@@ -1,0 +1,18 @@
+-- A set's three slices in a contract: as they are lent, and of a call before and after it. Assumes nothing.
+use mathlib.Core.List.{List}
+use Prim.Native.Nat.{ℕ}
+use denote.Ref.{RefT, now}
+use denote.Triple.Both.{Both}
+use Rattle.encoding.specs.Set.{Mem, mem}
+
+abbrev Lent : Type 0
+Lent = RefT (List ℕ)
+
+abbrev pub lent : Lent → Lent → Lent → Mem
+lent x z p = mem (now x) (now z) (now p)
+
+abbrev pub before : {A B C : Type 0} → Both Lent A → Both Lent B → Both Lent C → Mem
+before x z p = lent (x .entry) (z .entry) (p .entry)
+
+abbrev pub after : {A B C : Type 0} → Both A Lent → Both B Lent → Both C Lent → Mem
+after x z p = lent (x .exit) (z .exit) (p .exit)
