@@ -16,7 +16,7 @@ use Rattle.pauli.specs.Row.{Row, eqP}
 use Rattle.pauli.specs.Rows.{holding, countOf}
 use Rattle.pauli.proofs.Every.{everyP, atP}
 use Rattle.encoding.specs.Words.{odd, bit, word, unpack}
-use Rattle.encoding.specs.Set.{part, Mem, count, rowsIn, Valid}
+use Rattle.encoding.specs.Set.{part, Mem, bare, count, rowsIn, rowsOf, Valid}
 use Rattle.encoding.proofs.Memory.{clean, row-count}
 use Rattle.encoding.proofs.Padding.{Only}
 use Rattle.encoding.proofs.RowWords.{inWords, first-n}
@@ -138,6 +138,14 @@ from-masks n I r = refl
 from-masks n X r = refl
 from-masks n Y r = refl
 from-masks n Z r = refl
+
+-- the bits alone say it
+pub count-bare : (n : ℕ) (p : Pauli) (M : Mem) (r : ℕ) → countOf n p (rowsOf n (bare (M .m) (M .xs) (M .zs)) r) ≡ countOf n p (rowsOf n M r)
+unfolding countOf rowsIn
+count-bare n I M r = refl
+count-bare n X M r = refl
+count-bare n Y M r = refl
+count-bare n Z M r = refl
 
 pub counted-row : (n w : ℕ) {M : Mem} → Valid n w M → (r : ℕ) → r < count M → {a e : ℕ} → RowAt r w (count M) a e → (p : Pauli) {k : ℕ}
     → k ≡ masked p (unpack (part a e (M .xs)) (part a e (M .zs))) → (fromMasks p n k ≡ countOf n p (rowsIn n w M r)) × (k ≤ n)

@@ -11,7 +11,7 @@ use native.Mathlib.Omega.{arith}
 use borrow.Author.Tests.{leb-false}
 use lib.Dec.{leb}
 use lib.ListN.{length, getD, take, length-set, List·getD-eq-default}
-use lib.Seq.{ext-getD, getD-set-same, getD-set-other}
+use lib.Seq.{getD-set-same, getD-set-other}
 use Rattle.pauli.specs.Gauss.{_⊗_, ipow}
 use Rattle.pauli.specs.Pauli.{Pauli, _·_, turn}
 use Rattle.pauli.specs.declared.PauliMatrix.the-variants.{I, X, Y, Z}
@@ -21,7 +21,7 @@ use Rattle.pauli.specs.Matrix.{times, scaled, Same, Commute, Anticommute, matri
 use Rattle.pauli.proofs.Meaning.{matrix-product, row-product, bare-exactly, commute-iff, clashes-even, clashes-odd, central-iff, count-held, counts-add-up, action}
 use Rattle.encoding.specs.Limits.{maxRows, wordsOf}
 use Rattle.encoding.specs.Words.{bitAt}
-use Rattle.encoding.specs.Set.{Mem, count, rowsIn, rowsOf, list, lay, Valid, Sound, stateOf, layState}
+use Rattle.encoding.specs.Set.{Mem, count, exponentAt, rowsIn, rowsOf, list, lay, Valid, Sound, stateOf, layState}
 use Rattle.encoding.specs.Refusals.{fault, joined, setTests, numberTests, stateTests, tooLarge, doneOr, leftOr}
 use Rattle.encoding.proofs.Faults.{joined-fault, least-none, First, refused-exactly, done-none, refused-iff}
 use Rattle.encoding.proofs.Memory.{row-count, read-lay, valid-lay, count-lay, Proper}
@@ -32,7 +32,7 @@ use Rattle.pauli.proofs.RowLaws.{pad-mul}
 use Rattle.encoding.specs.declared.Answer.the-variants.{Done, Refused}
 use Rattle.encoding.proofs.BitLaws.{bit-lay}
 use Rattle.encoding.proofs.States.{state-long, length-state, state-back}
-use Rattle.encoding.proofs.Sets.{read-passes}
+use Rattle.encoding.proofs.Sets.{read-passes, same-bytes}
 use Rattle.cmpnt_list.specs.Calls.{gotOr, tallyOr, phaseOr, truthOr, rowFault, rowsFault, qubitFault, matrixFault, pairwiseFault, actionFault, laidMatrix, commuting, pairs, pairNumbers, getQubit, SetQubit, countIn, phaseOfMul, commutesWith, belongsToCentralizer, CompatibilityMatrix, MulPairwise, ImulState}
 use Rattle.cmpnt_list.specs.Workers.{Asked}
 use Rattle.cmpnt_list.specs.declared.Got.the-variants as got
@@ -181,7 +181,7 @@ module _ (n : ℕ) {L R O O′ : Mem} {cs cs′ : List ℕ} (wl : Words64 L) (wr
       let p = rowsOf n L k .ps in
       let q = rowsOf n R k .ps in
       ap (λ (N : Mem). rowsOf n N k) (c .rows ∙ ap (λ (j : ℕ). leftOr j O (lay n m (pairs n L R))) no-fault)
-      ∙ read-lay n w m (pairs n L R) (v .wide) k h (ap length (pad-mul p q (r ∙ sym l)) ∙ length-each _·_ p q (r ∙ sym l) ∙ l)
+      ∙ read-lay n w m (pairs n L R) (v .wide) k h (ap length (pad-mul p q (r ∙ sym l)) ∙ length-each _·_ p q (r ∙ sym l) ∙ l) (omega arith)
 
   pub pairwise-meaning : (k : ℕ) → k < count L → Same n (times n (rowMatrix n (rowsOf n L k)) (rowMatrix n (rowsOf n R k))) (rowMatrix n (rowsOf n O′ k))
   pairwise-meaning k h =
@@ -189,15 +189,15 @@ module _ (n : ℕ) {L R O O′ : Mem} {cs cs′ : List ℕ} (wl : Words64 L) (wr
       (row-product n (rowsOf n L k) (rowsOf n R k))
 
   -- the bytes that enter are below 4: both sets are tested for 5
-  pub pairwise-small : (k : ℕ) → (getD (L .es) k 0 < 4) × (getD (R .es) k 0 < 4)
+  pub pairwise-small : (k : ℕ) → (exponentAt (L .es) k < 4) × (exponentAt (R .es) k < 4)
   pairwise-small k = let g = pairwise-asked n O (length cs) wl wr no-fault in (g .0 .left .valid .small k, g .0 .right .valid .small k)
 
   -- the bare rule of the Rust's `cmpnts_mul_pairwise`, phase(left, right) alone, gives the byte exactly where the two bytes add up to 0 mod 4
   pub pairwise-bare : (k : ℕ) → k < count L
-      → (getD (O′ .es) k 0 ≡ phaseOf n (rowsOf n L k) (rowsOf n R k)) ↔ ((getD (L .es) k 0 + getD (R .es) k 0) % 4 ≡ 0)
+      → (exponentAt (O′ .es) k ≡ phaseOf n (rowsOf n L k) (rowsOf n R k)) ↔ ((exponentAt (L .es) k + exponentAt (R .es) k) % 4 ≡ 0)
   unfolding rowsIn
   pairwise-bare k h =
-      subst (λ (x : Row). (x .p ≡ phaseOf n (rowsOf n L k) (rowsOf n R k)) ↔ ((getD (L .es) k 0 + getD (R .es) k 0) % 4 ≡ 0)) (sym (pairwise-rows k h))
+      subst (λ (x : Row). (x .p ≡ phaseOf n (rowsOf n L k) (rowsOf n R k)) ↔ ((exponentAt (L .es) k + exponentAt (R .es) k) % 4 ≡ 0)) (sym (pairwise-rows k h))
       (bare-exactly n (rowsOf n L k) (rowsOf n R k))
 
   -- number k is that of the qubits where the rows clash: even exactly when their matrices commute, odd exactly when they anticommute
@@ -284,7 +284,7 @@ module _ (n : ℕ) {M : Mem} (w : Words64 M) (r q : ℕ) (p : Pauli) {M′ : Mem
   pub set-rows : (k : ℕ) → k < count M → rowsOf n M′ k ≡ withQubit (rowsOf n M) r q p k
   set-rows k h =
       ap (λ (N : Mem). rowsOf n N k) laid
-      ∙ read-lay n (wordsOf n) (count M) (withQubit (rowsOf n M) r q p) (asked .ready .valid .wide) k h (proper .long k h)
+      ∙ read-lay n (wordsOf n) (count M) (withQubit (rowsOf n M) r q p) (asked .ready .valid .wide) k h (proper .long k h) (proper .small k h)
 
   pub set-here : getD (rowsOf n M′ r .ps) q I ≡ p
   unfolding rowsIn
@@ -304,16 +304,6 @@ module _ (n : ℕ) {M : Mem} (w : Words64 M) (r q : ℕ) (p : Pauli) {M′ : Mem
   pub set-count : count M′ ≡ count M
   set-count = ap count laid ∙ count-lay n (wordsOf n) (count M) (withQubit (rowsOf n M) r q p) (asked .ready .valid .wide)
 
-  pub set-bytes : M′ .es ≡ M .es
-  unfolding rowsIn
-  set-bytes =
-      ext-getD 0 (M′ .es) (M .es) set-count
-      (λ i h. let l : i < count M = subst (λ (k : ℕ). i < k) set-count h in ap (λ (x : Row). x .p) (set-rows i l) ∙ byte i (ℕ-discrete i r))
-    where
-      byte : (k : ℕ) → Dec (k ≡ r) → withQubit (rowsOf n M) r q p k .p ≡ getD (M .es) k 0
-      byte k (yes e) = ap (λ (x : Row). x .p) (with-here (rowsOf n M) r q p k e) ∙ ap (λ (i : ℕ). getD (M .es) i 0) (sym e)
-      byte k (no ne) = ap (λ (x : Row). x .p) (with-other (rowsOf n M) r q p k ne)
-
   -- the set is again one that every call takes, and get_qubit gives what was set
   pub set-ready : Sound n M′
   set-ready =
@@ -322,6 +312,16 @@ module _ (n : ℕ) {M : Mem} (w : Words64 M) (r q : ℕ) (p : Pauli) {M′ : Mem
         few-qubits = asked .ready .few-qubits;
         few-rows = subst (λ (k : ℕ). k ≤ maxRows) (sym set-count) (asked .ready .few-rows);
       }
+
+  pub set-bytes : M′ .es ≡ M .es
+  unfolding rowsIn
+  set-bytes =
+      same-bytes n (wordsOf n) (set-ready .valid) (asked .ready .valid) set-count
+      (λ i h. let l : i < count M = subst (λ (k : ℕ). i < k) set-count h in ap (λ (x : Row). x .p) (set-rows i l) ∙ byte i (ℕ-discrete i r))
+    where
+      byte : (k : ℕ) → Dec (k ≡ r) → withQubit (rowsOf n M) r q p k .p ≡ exponentAt (M .es) k
+      byte k (yes e) = ap (λ (x : Row). x .p) (with-here (rowsOf n M) r q p k e) ∙ ap (exponentAt (M .es)) (sym e)
+      byte k (no ne) = ap (λ (x : Row). x .p) (with-other (rowsOf n M) r q p k ne)
 
   pub set-then-get : getQubit n M′ r q ≡ got.Is p
   unfolding getQubit

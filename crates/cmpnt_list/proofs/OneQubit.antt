@@ -1,11 +1,12 @@
 -- One qubit of one row was set: the memory is the one laid from the rows with that qubit set. Assumes nothing.
-use mathlib.Core.Path.{_≡_, refl, sym, ap, _∙_, subst}
-use mathlib.Core.Bool.{Bool, cond}
+use mathlib.Core.Path.{_≡_, refl, sym, ap, _∙_, subst, fun-ext}
+use mathlib.Core.Bool.{Bool, true, false, cond}
 use mathlib.Core.List.{List}
 use Prim.Native.Nat.{ℕ, _+_, _-_, _*_, _/_, _≤_, _<_}
 use native.Mathlib.Decide.{ℕ-discrete}
 use native.Mathlib.Omega.{arith}
 use borrow.Author.Tests.{eq-eqb, ne-eqb}
+use lib.Dec.{eqb}
 use borrow.Rule.Slice.PartMut.{putMid}
 use lib.ListN.{length, getD, set, length-set}
 use lib.Seq.{ext-getD, getD-take, getD-drop, getD-set-same, getD-set-other}
@@ -13,14 +14,15 @@ use Rattle.pauli.specs.Pauli.{Pauli, hasX, hasZ}
 use Rattle.pauli.specs.declared.PauliMatrix.the-variants.{I}
 use Rattle.pauli.specs.Row.{Row}
 use Rattle.pauli.specs.Rows.{withQubit}
-use Rattle.encoding.specs.Words.{unpack, qubits, pack}
-use Rattle.encoding.specs.Set.{part, row, Mem, mem, count, rowsIn, layIn, QubitSet, Valid}
+use Rattle.encoding.specs.Words.{unpack, qubits, pack, layRows}
+use Rattle.encoding.specs.Set.{part, row, Mem, memOf, bare, count, list, exponentAt, layExponents, rowsIn, layIn, QubitSet, Valid}
 use Rattle.encoding.proofs.WordLaws.{Fit}
 use Rattle.encoding.proofs.Padding.{Clean}
 use Rattle.encoding.proofs.Qubits.{read-back, others-same}
 use Rattle.encoding.proofs.Reading.{length-qubits}
 use Rattle.encoding.proofs.Parts.{fit-part}
-use Rattle.encoding.proofs.Memory.{packed-of, clean, x-row, z-row}
+use Rattle.encoding.proofs.Memory.{mem-eq, packed-of, clean, x-row, z-row}
+use Rattle.encoding.proofs.Exponents.{laid-long}
 use Rattle.encoding.proofs.Sets.{laid-by}
 use Rattle.products.specs.Leaves.{Outside}
 use Rattle.products.proofs.PartLaws.{row-other}
@@ -87,14 +89,15 @@ module _ (n w : ℕ) {M : Mem} (v : Valid n w M) (r q : ℕ) (p : Pauli) (hr : r
 
   module _ {xs′ zs′ : List ℕ} (ox : Outside (r * w) (r * w + w) (M .xs) xs′) (oz : Outside (r * w) (r * w + w) (M .zs) zs′)
       (here : (row w r xs′ ≡ pack hasX w (set (σ r .ps) q p)) × (row w r zs′ ≡ pack hasZ w (set (σ r .ps) q p))) where
-    one-row : mem xs′ zs′ (M .es) ≡ layIn w (count M) (withQubit (rowsIn n w M) r q p)
+    one-row : memOf (count M) xs′ zs′ (M .es) ≡ layIn w (count M) (withQubit (rowsIn n w M) r q p)
     unfolding σ rowsIn
     one-row =
         laid-by
         (record {
           x-long = ox .long ∙ v .x-long;
           z-long = oz .long ∙ v .z-long;
-          p-long = refl;
+          many = refl;
+          p-long = laid-long (count M) (v .exponents);
           x-row = λ k h. xr k h (ℕ-discrete k r);
           z-row = λ k h. zr k h (ℕ-discrete k r);
           byte = λ k h. br k (ℕ-discrete k r);
@@ -108,8 +111,8 @@ module _ (n w : ℕ) {M : Mem} (v : Valid n w M) (r q : ℕ) (p : Pauli) (hr : r
         zr k h (yes e) = ap (λ (j : ℕ). row w j zs′) e ∙ here .1 ∙ ap (λ (x : Row). pack hasZ w (x .ps)) (sym (with-here (rowsIn n w M) r q p k e))
         zr k h (no ne) = row-other w k r oz ne ∙ v .packed k h .z-is ∙ ap (λ (x : Row). pack hasZ w (x .ps)) (sym (with-other (rowsIn n w M) r q p k ne))
 
-        br : (k : ℕ) → Dec (k ≡ r) → getD (M .es) k 0 ≡ withQubit (rowsIn n w M) r q p k .p
-        br k (yes e) = ap (λ (j : ℕ). getD (M .es) j 0) e ∙ ap (λ (x : Row). x .p) (sym (with-here (rowsIn n w M) r q p k e))
+        br : (k : ℕ) → Dec (k ≡ r) → exponentAt (M .es) k ≡ withQubit (rowsIn n w M) r q p k .p
+        br k (yes e) = ap (exponentAt (M .es)) e ∙ ap (λ (x : Row). x .p) (sym (with-here (rowsIn n w M) r q p k e))
         br k (no ne) = ap (λ (x : Row). x .p) (sym (with-other (rowsIn n w M) r q p k ne))
 
   -- as the code does it: the two parts of the row are lent, and put back
@@ -117,7 +120,7 @@ module _ (n w : ℕ) {M : Mem} (v : Valid n w M) (r q : ℕ) (p : Pauli) (hr : r
       → length px ≡ length (part a e (M .xs)) → length pz ≡ length (part a e (M .zs))
       → Fit (putMid a (e - a) (M .xs) px) → Fit (putMid a (e - a) (M .zs) pz)
       → QubitSet q p (part a e (M .xs)) (part a e (M .zs)) px pz
-      → mem (putMid a (e - a) (M .xs) px) (putMid a (e - a) (M .zs) pz) (M .es) ≡ layIn w (count M) (withQubit (rowsIn n w M) r q p)
+      → memOf (count M) (putMid a (e - a) (M .xs) px) (putMid a (e - a) (M .zs) pz) (M .es) ≡ layIn w (count M) (withQubit (rowsIn n w M) r q p)
   unfolding σ rowsIn
   qubit-written {a} {e} at px pz kx kz fx fz s =
       let lx : length (row w r (M .xs)) ≡ w = x-row n w v r hr in
@@ -130,3 +133,30 @@ module _ (n w : ℕ) {M : Mem} (v : Valid n w M) (r q : ℕ) (p : Pauli) (hr : r
       let k = set-packed n w q p (v .wide) hq lx lz (kx ∙ ap length (part-is at (M .xs)) ∙ lx) (kz ∙ ap length (part-is at (M .zs)) ∙ lz) (clean n w v r hr) s′
       (subst Fit hx (fit-part (r * w) (r * w + w) (putMid a (e - a) (M .xs) px) fx)) (subst Fit hz (fit-part (r * w) (r * w + w) (putMid a (e - a) (M .zs) pz) fz)) in
       one-row (put-rest at (M .xs) px (v .x-long) kx) (put-rest at (M .zs) pz (v .z-long) kz) (hx ∙ k .0, hz ∙ k .1)
+
+-- ---- the exponents are as they were
+
+either-ps : (b : Bool) (x y x′ y′ : Row) → x .ps ≡ x′ .ps → y .ps ≡ y′ .ps → cond b x y .ps ≡ cond b x′ y′ .ps
+either-ps true x y x′ y′ e d = e
+either-ps false x y x′ y′ e d = d
+
+module _ (n w : ℕ) {M : Mem} (v : Valid n w M) (r q : ℕ) (p : Pauli) where
+  kept : (k : ℕ) → Dec (k ≡ r) → exponentAt (M .es) k ≡ withQubit (rowsIn n w M) r q p k .p
+  unfolding rowsIn
+  kept k (yes e) = ap (exponentAt (M .es)) e ∙ ap (λ (x : Row). x .p) (sym (with-here (rowsIn n w M) r q p k e))
+  kept k (no ne) = ap (λ (x : Row). x .p) (sym (with-other (rowsIn n w M) r q p k ne))
+
+  pub with-exponents : {xs′ zs′ : List ℕ}
+      → bare (M .m) xs′ zs′ ≡ layIn w (M .m) (withQubit (rowsIn n w (bare (M .m) (M .xs) (M .zs))) r q p)
+      → memOf (M .m) xs′ zs′ (M .es) ≡ layIn w (M .m) (withQubit (rowsIn n w M) r q p)
+  unfolding layIn rowsIn withQubit
+  with-exponents {xs′} {zs′} e =
+      let m = M .m in
+      let S = rowsIn n w (bare m (M .xs) (M .zs)) in
+      let T = rowsIn n w M in
+      let ps : _≡_ {A = ℕ → List Pauli} (λ k. withQubit S r q p k .ps) (λ k. withQubit T r q p k .ps) = fun-ext (λ k. either-ps (eqb k r) (record { ps = set (S r .ps) q p; p = S r .p }) (S k) (record { ps = set (T r .ps) q p; p = T r .p }) (T k) refl refl) in
+      mem-eq
+      refl
+      (ap (λ (N : Mem). N .xs) e ∙ ap (λ (f : ℕ → List Pauli). layRows hasX w (list m f)) ps)
+      (ap (λ (N : Mem). N .zs) e ∙ ap (λ (f : ℕ → List Pauli). layRows hasZ w (list m f)) ps)
+      (v .exponents ∙ ap (layExponents m) (fun-ext (λ k. kept k (ℕ-discrete k r))))

@@ -13,9 +13,10 @@ use Rattle.pauli.specs.Row.{expo, mulRow}
 use Rattle.pauli.specs.Rows.{clashesOf}
 use Rattle.encoding.specs.Limits.{wordsOf}
 use Rattle.encoding.specs.Words.{pack}
-use Rattle.encoding.specs.Set.{row, Mem, mem, count, rowsIn, rowsOf}
+use Rattle.encoding.specs.Set.{row, Mem, mem, count, exponentAt, withExponent, rowsIn, rowsOf}
 use Rattle.encoding.proofs.Parts.{length-list, getD-list}
 use Rattle.encoding.proofs.Memory.{x-row}
+use Rattle.encoding.proofs.Exponents.{units-with, exponent-same, exponent-other}
 use Rattle.encoding.proofs.RowWords.{inWords, product-is, phase-is, clashes-fit}
 use Rattle.encoding.proofs.Sets.{Holds}
 use Rattle.products.specs.Leaves.{SameLength, ProductAt}
@@ -51,7 +52,8 @@ module _ (n : ℕ) {L R : Mem} (b : BothReady n L R) where
       record {
         x-long = t .x-long;
         z-long = t .z-long;
-        p-long = t .rows;
+        many = t .rows;
+        p-long = t .e-long;
         x-row = λ k h. absurd (not-suc-le-zero h);
         z-row = λ k h. absurd (not-suc-le-zero h);
         byte = λ k h. absurd (not-suc-le-zero h);
@@ -78,18 +80,18 @@ module _ (n : ℕ) {L R : Mem} (b : BothReady n L R) where
             ∙ q .here .factor .number ∙ clashes-fit n (wordsOf n) (b .left .valid) R (b .left .few-qubits) r r hr);
       }
 
-  one-byte : {ox oz ox′ oz′ : List ℕ} {r v : ℕ} {p : Factor} → r < count L → v ≡ (getD (L .es) r 0 + getD (R .es) r 0 + p .phase .0) % 4
+  one-byte : {ox oz ox′ oz′ : List ℕ} {r v : ℕ} {p : Factor} → r < count L → v ≡ (exponentAt (L .es) r + exponentAt (R .es) r + p .phase .0) % 4
       → ProductAt (r * wordsOf n) (r * wordsOf n + wordsOf n) (L .xs) (L .zs) (R .xs) (R .zs) ox oz ox′ oz′ p → v ≡ pairs n L R r .p
   unfolding mulRow rowsIn
   one-byte {ox} {oz} {ox′} {oz′} {r} {v} {p} hr hv q =
-      let x = getD (L .es) r 0 in
-      let y = getD (R .es) r 0 in
+      let x = exponentAt (L .es) r in
+      let y = exponentAt (R .es) r in
       hv ∙ ap (λ (e : ℕ). (x + y + e) % 4) (q .here .factor .exponent ∙ phase-is n (wordsOf n) (b .left .valid) R r r hr) ∙ low-last x y (expo n (rowsOf n L r) (rowsOf n R r))
 
-  module _ {ox oz op ox′ oz′ : List ℕ} {r v : ℕ} {p : Factor} (hr : r < count L) (hr′ : r < count R) (hv : v ≡ (getD (L .es) r 0 + getD (R .es) r 0 + p .phase .0) % 4) where
+  module _ {ox oz op ox′ oz′ : List ℕ} {r v : ℕ} {p : Factor} (hr : r < count L) (hr′ : r < count R) (hv : v ≡ (exponentAt (L .es) r + exponentAt (R .es) r + p .phase .0) % 4) where
     one-more : Holds (wordsOf n) (count L) r (pairs n L R) (mem ox oz op)
         → ProductAt (r * wordsOf n) (r * wordsOf n + wordsOf n) (L .xs) (L .zs) (R .xs) (R .zs) ox oz ox′ oz′ p
-        → Holds (wordsOf n) (count L) (r + 1) (pairs n L R) (mem ox′ oz′ (set op r v))
+        → Holds (wordsOf n) (count L) (r + 1) (pairs n L R) (mem ox′ oz′ (withExponent op r v))
     unfolding mulRow
     one-more h q =
         let w = wordsOf n in
@@ -98,7 +100,8 @@ module _ (n : ℕ) {L R : Mem} (b : BothReady n L R) where
         record {
           x-long = q .x-rest .long ∙ h .x-long;
           z-long = q .z-rest .long ∙ h .z-long;
-          p-long = length-set op r v ∙ h .p-long;
+          many = units-with op r v ∙ h .many;
+          p-long = units-with op r v ∙ h .p-long;
           x-row =
               below-more (λ (k : ℕ). row w k ox′ ≡ pack hasX w (pairs n L R k .ps)) r
               (λ k i. row-other w k r (q .x-rest) (ne-of-lt i) ∙ h .x-row k i)
@@ -108,16 +111,16 @@ module _ (n : ℕ) {L R : Mem} (b : BothReady n L R) where
               (λ k i. row-other w k r (q .z-rest) (ne-of-lt i) ∙ h .z-row k i)
               (q .here .z-words ∙ ap (λ (j : ℕ). pack hasZ j (mul (inWords w L r) (inWords w R r))) long ∙ product-is n w l R (b .right .valid) hasZ refl r r hr hr′);
           byte =
-              below-more (λ (k : ℕ). getD (set op r v) k 0 ≡ pairs n L R k .p) r
-              (λ k i. getD-set-other op r k v 0 (ne-of-lt i) ∙ h .byte k i)
-              (getD-set-same op r v 0 (subst (λ (j : ℕ). r < j) (sym (h .p-long)) hr) ∙ one-byte hr hv q);
+              below-more (λ (k : ℕ). exponentAt (withExponent op r v) k ≡ pairs n L R k .p) r
+              (λ k i. exponent-other op r v k (ne-of-lt i) ∙ h .byte k i)
+              (exponent-same op r v (h .p-long) hr (omega (arith, hv)) ∙ one-byte hr hv q);
         }
 
-    pub holds-more : {m a e : ℕ} {cs : List ℕ} → RowAt r (wordsOf n) m a e → Holds (wordsOf n) (count L) r (pairs n L R) (mem ox oz op) → Numbered n L R r cs
+    pub holds-more : {m a e : ℕ} {cs op′ : List ℕ} → op′ ≡ withExponent op r v → RowAt r (wordsOf n) m a e → Holds (wordsOf n) (count L) r (pairs n L R) (mem ox oz op) → Numbered n L R r cs
         → ProductAt a e (L .xs) (L .zs) (R .xs) (R .zs) ox oz ox′ oz′ p
-        → Holds (wordsOf n) (count L) (r + 1) (pairs n L R) (mem ox′ oz′ (set op r v)) × Numbered n L R (r + 1) (set cs r (p .clashes))
-    holds-more {m} {a} {e} at h c q =
+        → Holds (wordsOf n) (count L) (r + 1) (pairs n L R) (mem ox′ oz′ op′) × Numbered n L R (r + 1) (set cs r (p .clashes))
+    holds-more {m} {a} {e} {cs} {op′} eo at h c q =
         let q′ : ProductAt (r * wordsOf n) (r * wordsOf n + wordsOf n) (L .xs) (L .zs) (R .xs) (R .zs) ox oz ox′ oz′ p =
         subst (λ (i : ℕ). ProductAt i (r * wordsOf n + wordsOf n) (L .xs) (L .zs) (R .xs) (R .zs) ox oz ox′ oz′ p) (at .from)
         (subst (λ (j : ℕ). ProductAt a j (L .xs) (L .zs) (R .xs) (R .zs) ox oz ox′ oz′ p) (at .to) q) in
-        (one-more h q′, one-number hr c q′)
+        (subst (λ (o : List ℕ). Holds (wordsOf n) (count L) (r + 1) (pairs n L R) (mem ox′ oz′ o)) (sym eo) (one-more h q′), one-number hr c q′)

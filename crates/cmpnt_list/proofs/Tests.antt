@@ -5,7 +5,7 @@ use Prim.Native.Nat.{ℕ, _*_, _≤_, _<_}
 use borrow.Author.Tests.{leb-false, lt-ltb, le-ltb, eqb-true, not-false}
 use lib.Dec.{eqb, leb}
 use Rattle.encoding.specs.Limits.{maxRows, wordsOf}
-use Rattle.encoding.specs.Set.{Mem, count, Valid}
+use Rattle.encoding.specs.Set.{Mem, count, phaseUnits, Valid}
 use Rattle.encoding.specs.Refusals.{faultFrom, fault, joined, least, setTests, outTests, numberTests}
 use Rattle.encoding.proofs.Faults.{no-test, joined-fault, both-parts, least-none, not-large, number-is}
 use Rattle.encoding.proofs.WordLaws.{Fit}
@@ -81,6 +81,7 @@ third-ready n m k q O {f} {a} {b} ea eb ef z =
       rows = s .rows;
       x-long = s .x-long ∙ ap (λ (j : ℕ). j * wordsOf n) (s .rows);
       z-long = s .z-long ∙ ap (λ (j : ℕ). j * wordsOf n) (s .rows);
+      e-long = s .e-long ∙ ap phaseUnits (s .rows);
     }
 
 pub pairwise-asked : (n : ℕ) {L R : Mem} (O : Mem) (q : ℕ) → Words64 L → Words64 R → pairwiseFault n L R O q ≡ 0

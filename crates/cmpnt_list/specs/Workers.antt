@@ -12,7 +12,7 @@ use Rattle.pauli.specs.Row.{Row}
 use Rattle.pauli.specs.Rows.{holding, actOn, actPhaseOn}
 use Rattle.encoding.specs.Limits.{wordsOf}
 use Rattle.encoding.specs.Words.{bitAt}
-use Rattle.encoding.specs.Set.{Mem, count, Sound, stateOf, layState}
+use Rattle.encoding.specs.Set.{Mem, count, phaseUnits, Sound, stateOf, layState}
 
 -- no test of the set holds, and no number is too large
 pub record Asked (n : ℕ) (M : Mem) (large : Bool) : Type 0 where
@@ -35,6 +35,7 @@ pub record ThirdReady (n m k q : ℕ) (O : Mem) : Type 0 where
   pub rows : count O ≡ m
   pub x-long : length (O .xs) ≡ m * wordsOf n
   pub z-long : length (O .zs) ≡ m * wordsOf n
+  pub e-long : length (O .es) ≡ phaseUnits m
 
 -- row r of m rows of w words is the part from a to e
 pub record RowAt (r w m a e : ℕ) : Type 0 where

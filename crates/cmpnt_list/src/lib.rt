@@ -1,14 +1,14 @@
 // The calls over a row set. Each tests first, as the table of refusals says, and then works; what it answers and leaves stands in specs/Calls.antt.
 ghost use mathlib.Core.Path.{_≡_};
-ghost use Prim.Native.Nat.{_+_, _*_, _≤_, _<_};
+ghost use Prim.Native.Nat.{_+_, _*_, _%_, _≤_, _<_};
 ghost use lib.Count.{ones};
 ghost use lib.ListN.{length, getD};
 ghost use Rattle.pauli.specs.declared.PauliMatrix.the-variants.{I};
 ghost use Rattle.pauli.specs.Rows.{phaseOf, commute, central, countOf, withQubit};
 ghost use Rattle.encoding.specs.Limits.{maxQubits, maxRows, maxWords, wordsOf};
 ghost use Rattle.encoding.specs.Words.{word, unpack};
-ghost use Rattle.encoding.specs.Set.{rowsOf, lay, Sound};
-ghost use Rattle.encoding.specs.Lent.{lent, before, after};
+ghost use Rattle.encoding.specs.Set.{exponentAt, withExponent, rowsOf, lay, Sound};
+ghost use Rattle.encoding.specs.Lent.{lent, before, after, bitsLent, bitsBefore, bitsAfter};
 ghost use Rattle.encoding.specs.Refusals.{fault, joined, setTests, outTests, stateTests};
 ghost use Rattle.products.specs.Leaves.{SameLength, ProductAt};
 ghost use Rattle.cmpnt_list.specs.Calls.{readFault, matrixTests, matrixFault, laidMatrix, commuting, otherLengths, pairs, pairNumbers, getQubit, SetQubit, countIn, phaseOfMul, commutesWith, belongsToCentralizer, CompatibilityMatrix, MulPairwise, ImulState};
@@ -69,19 +69,12 @@ fn row_span(r: usize, n: usize, m: usize) -> Span
 }
 
 // The Pauli at qubit q of row r.
-fn read_qubit(
-    n: usize,
-    x: &[u64],
-    z: &[u64],
-    phases: &[u8],
-    r: RowNumber,
-    q: QubitNumber,
-) -> PauliMatrix
-    requires { ⌜ Sound n (lent x z phases) ⌝ }
-    requires { ⌜ (r .0 < length (now phases)) × (q .0 < n) ⌝ }
-    ensures { λ p. ⌜ p ≡ getD (rowsOf n (before x z phases) (r .0) .ps) (q .0) I ⌝ }
+fn read_qubit(n: usize, m: usize, x: &[u64], z: &[u64], r: RowNumber, q: QubitNumber) -> PauliMatrix
+    requires { ⌜ Sound n (bitsLent m x z) ⌝ }
+    requires { ⌜ (r .0 < m) × (q .0 < n) ⌝ }
+    ensures { λ p. ⌜ p ≡ getD (rowsOf n (bitsBefore m x z) (r .0) .ps) (q .0) I ⌝ }
 {
-    let s = row_span(r.0, n, phases.len());
+    let s = row_span(r.0, n, m);
     let a = s.0;
     let e = s.1;
     encoding::get_qubit(&x[a..e], &z[a..e], q)
@@ -104,24 +97,24 @@ pub fn get_qubit(
     if f != 0 {
         return Got::Refused(f);
     }
-    Got::Is(read_qubit(n, x, z, phases, row, qubit))
+    Got::Is(read_qubit(n, phases.len(), x, z, row, qubit))
 }
 
 // Qubit q of row r becomes a Pauli.
 fn write_qubit(
     n: usize,
+    m: usize,
     x: &mut [u64],
     z: &mut [u64],
-    phases: &[u8],
     r: RowNumber,
     q: QubitNumber,
     pauli: PauliMatrix,
 )
-    requires { ⌜ Sound n (lent x z phases) ⌝ }
-    requires { ⌜ (r .0 < length (now phases)) × (q .0 < n) ⌝ }
-    ensures { λ _. ⌜ after x z phases ≡ lay n (length (now (phases .entry))) (withQubit (rowsOf n (before x z phases)) (r .0) (q .0) pauli) ⌝ }
+    requires { ⌜ Sound n (bitsLent m x z) ⌝ }
+    requires { ⌜ (r .0 < m) × (q .0 < n) ⌝ }
+    ensures { λ _. ⌜ bitsAfter m x z ≡ lay n m (withQubit (rowsOf n (bitsBefore m x z)) (r .0) (q .0) pauli) ⌝ }
 {
-    let s = row_span(r.0, n, phases.len());
+    let s = row_span(r.0, n, m);
     let a = s.0;
     let e = s.1;
     encoding::set_qubit(&mut x[a..e], &mut z[a..e], q, pauli);
@@ -145,7 +138,7 @@ pub fn set_qubit(
     if f != 0 {
         return Answer::Refused(f);
     }
-    write_qubit(n, x, z, phases, row, qubit, pauli);
+    write_qubit(n, phases.len(), x, z, row, qubit, pauli);
     Answer::Done
 }
 
@@ -198,12 +191,12 @@ fn from_masks(p: PauliMatrix, n: usize, k: u64) -> u64
 }
 
 // The number of qubits of row r that hold the Pauli.
-fn count_in(n: usize, x: &[u64], z: &[u64], phases: &[u8], r: usize, pauli: PauliMatrix) -> u64
-    requires { ⌜ Sound n (lent x z phases) ⌝ }
-    requires { ⌜ r < length (now phases) ⌝ }
-    ensures { λ k. ⌜ k ≡ countOf n pauli (rowsOf n (before x z phases) r) ⌝ }
+fn count_in(n: usize, m: usize, x: &[u64], z: &[u64], r: usize, pauli: PauliMatrix) -> u64
+    requires { ⌜ Sound n (bitsLent m x z) ⌝ }
+    requires { ⌜ r < m ⌝ }
+    ensures { λ k. ⌜ k ≡ countOf n pauli (rowsOf n (bitsBefore m x z) r) ⌝ }
 {
-    let s = row_span(r, n, phases.len());
+    let s = row_span(r, n, m);
     let a = s.0;
     let e = s.1;
     let k = count_row(&x[a..e], &z[a..e], pauli);
@@ -225,17 +218,17 @@ pub fn count(
     if f != 0 {
         return Tally::Refused(f);
     }
-    Tally::Number(count_in(n, x, z, phases, row.0, pauli))
+    Tally::Number(count_in(n, phases.len(), x, z, row.0, pauli))
 }
 
 // The exponent of the product of rows a and b.
-fn phase_rows(n: usize, x: &[u64], z: &[u64], phases: &[u8], a: usize, b: usize) -> ComplexSign
-    requires { ⌜ Sound n (lent x z phases) ⌝ }
-    requires { ⌜ (a < length (now phases)) × (b < length (now phases)) ⌝ }
-    ensures { λ r. ⌜ r .0 ≡ phaseOf n (rowsOf n (before x z phases) a) (rowsOf n (before x z phases) b) ⌝ }
+fn phase_rows(n: usize, m: usize, x: &[u64], z: &[u64], a: usize, b: usize) -> ComplexSign
+    requires { ⌜ Sound n (bitsLent m x z) ⌝ }
+    requires { ⌜ (a < m) × (b < m) ⌝ }
+    ensures { λ r. ⌜ r .0 ≡ phaseOf n (rowsOf n (bitsBefore m x z) a) (rowsOf n (bitsBefore m x z) b) ⌝ }
 {
-    let s = row_span(a, n, phases.len());
-    let t = row_span(b, n, phases.len());
+    let s = row_span(a, n, m);
+    let t = row_span(b, n, m);
     let la = s.0;
     let le = s.1;
     let ra = t.0;
@@ -261,17 +254,17 @@ pub fn phase_of_mul(
     if f != 0 {
         return Phase::Refused(f);
     }
-    Phase::Exponent(phase_rows(n, x, z, phases, a.0, b.0))
+    Phase::Exponent(phase_rows(n, phases.len(), x, z, a.0, b.0))
 }
 
 // Whether rows a and b commute.
-fn commute_rows(n: usize, x: &[u64], z: &[u64], phases: &[u8], a: usize, b: usize) -> bool
-    requires { ⌜ Sound n (lent x z phases) ⌝ }
-    requires { ⌜ (a < length (now phases)) × (b < length (now phases)) ⌝ }
-    ensures { λ r. ⌜ r ≡ commute n (rowsOf n (before x z phases) a) (rowsOf n (before x z phases) b) ⌝ }
+fn commute_rows(n: usize, m: usize, x: &[u64], z: &[u64], a: usize, b: usize) -> bool
+    requires { ⌜ Sound n (bitsLent m x z) ⌝ }
+    requires { ⌜ (a < m) × (b < m) ⌝ }
+    ensures { λ r. ⌜ r ≡ commute n (rowsOf n (bitsBefore m x z) a) (rowsOf n (bitsBefore m x z) b) ⌝ }
 {
-    let s = row_span(a, n, phases.len());
-    let t = row_span(b, n, phases.len());
+    let s = row_span(a, n, m);
+    let t = row_span(b, n, m);
     let la = s.0;
     let le = s.1;
     let ra = t.0;
@@ -296,19 +289,18 @@ pub fn commutes_with(
     if f != 0 {
         return Truth::Refused(f);
     }
-    Truth::Is(commute_rows(n, x, z, phases, a.0, b.0))
+    Truth::Is(commute_rows(n, phases.len(), x, z, a.0, b.0))
 }
 
 // Whether row r commutes with every row.
-fn central_row(n: usize, x: &[u64], z: &[u64], phases: &[u8], r: usize) -> bool
-    requires { ⌜ Sound n (lent x z phases) ⌝ }
-    requires { ⌜ r < length (now phases) ⌝ }
-    ensures { λ b. ⌜ b ≡ central n (length (now (phases .entry))) (rowsOf n (before x z phases)) r ⌝ }
+fn central_row(n: usize, m: usize, x: &[u64], z: &[u64], r: usize) -> bool
+    requires { ⌜ Sound n (bitsLent m x z) ⌝ }
+    requires { ⌜ r < m ⌝ }
+    ensures { λ b. ⌜ b ≡ central n m (rowsOf n (bitsBefore m x z)) r ⌝ }
 {
-    let m = phases.len();
     let mut k = 0;
     while k < m {
-        if !commute_rows(n, x, z, phases, r, k) {
+        if !commute_rows(n, m, x, z, r, k) {
             return false;
         }
         k += 1;
@@ -330,7 +322,7 @@ pub fn belongs_to_centralizer(
     if f != 0 {
         return Truth::Refused(f);
     }
-    Truth::Is(central_row(n, x, z, phases, row.0))
+    Truth::Is(central_row(n, phases.len(), x, z, row.0))
 }
 
 // The words of an m by m matrix of bits.
@@ -363,13 +355,13 @@ fn matrix_fault(n: usize, x: &[u64], z: &[u64], phases: &[u8], size: usize) -> u
 }
 
 // The matrix of a set's rows.
-fn fill_matrix(n: usize, x: &[u64], z: &[u64], phases: &[u8], out: &mut [u64])
-    requires { ⌜ Sound n (lent x z phases) ⌝ }
-    requires { ⌜ length (now out) ≡ length (now phases) * wordsOf (length (now phases)) ⌝ }
-    ensures { λ _. ⌜ now (out .exit) ≡ laidMatrix (length (now (phases .entry))) (commuting n (before x z phases)) ⌝ }
+fn fill_matrix(n: usize, m: usize, x: &[u64], z: &[u64], out: &mut [u64])
+    requires { ⌜ Sound n (bitsLent m x z) ⌝ }
+    requires { ⌜ length (now out) ≡ m * wordsOf m ⌝ }
+    ensures { λ _. ⌜ now (out .exit) ≡ laidMatrix m (commuting n (bitsBefore m x z)) ⌝ }
 {
     let w = encoding::words(n);
-    matrix::fill(x, z, w, phases.len(), out);
+    matrix::fill(x, z, w, m, out);
 }
 
 // Bit j of row i is set exactly when rows i and j commute.
@@ -386,7 +378,7 @@ pub fn compatibility_matrix(
     if f != 0 {
         return Answer::Refused(f);
     }
-    fill_matrix(n, x, z, phases, out);
+    fill_matrix(n, phases.len(), x, z, out);
     Answer::Done
 }
 
@@ -440,6 +432,16 @@ fn mul_part(
     )
 }
 
+// The exponent of row r of a product: those of the two rows, and e.
+fn mul_exponents(lp: &[u8], rp: &[u8], op: &mut [u8], r: RowNumber, e: ComplexSign)
+    ensures { λ _. ⌜ now (op .exit) ≡ withExponent (now (op .entry)) (r .0)
+        ((exponentAt (now (lp .entry)) (r .0) + exponentAt (now (rp .entry)) (r .0) + e .0) % 4) ⌝ }
+{
+    let a = encoding::get_exponent(lp, r);
+    let b = encoding::get_exponent(rp, r);
+    encoding::set_exponent(op, r, products::add_signs(a, b, e));
+}
+
 // Row by row, left times right is written into the third set, with its phase byte, and the number of clashes.
 fn mul_rows(
     n: usize,
@@ -467,9 +469,7 @@ fn mul_rows(
         let e = s.1;
         let f = mul_part(a, e, lx, lz, rx, rz, ox, oz);
         let i = f.phase;
-        let p = lp[r];
-        let q = rp[r];
-        op[r] = products::add_signs(p, q, i.0);
+        mul_exponents(lp, rp, op, RowNumber(r), i);
         clashes[r] = f.clashes;
         r += 1;
     }
@@ -505,12 +505,12 @@ pub fn cmpnts_mul_pairwise(
 }
 
 // Row r acts on a basis state.
-fn act_on(n: usize, x: &[u64], z: &[u64], phases: &[u8], r: usize, state: &mut [u64]) -> ComplexSign
-    requires { ⌜ Sound n (lent x z phases) ⌝ }
-    requires { ⌜ (r < length (now phases)) × (fault (stateTests n (now state)) ≡ 0) ⌝ }
-    ensures { λ e. ⌜ StateActed n (rowsOf n (before x z phases) r) (now (state .entry)) (now (state .exit)) (e .0) ⌝ }
+fn act_on(n: usize, m: usize, x: &[u64], z: &[u64], r: usize, state: &mut [u64]) -> ComplexSign
+    requires { ⌜ Sound n (bitsLent m x z) ⌝ }
+    requires { ⌜ (r < m) × (fault (stateTests n (now state)) ≡ 0) ⌝ }
+    ensures { λ e. ⌜ StateActed n (rowsOf n (bitsBefore m x z) r) (now (state .entry)) (now (state .exit)) (e .0) ⌝ }
 {
-    let s = row_span(r, n, phases.len());
+    let s = row_span(r, n, m);
     let a = s.0;
     let e = s.1;
     products::imul_op_state(&x[a..e], &z[a..e], state)
@@ -534,5 +534,5 @@ pub fn imul_state(
     if f != 0 {
         return Phase::Refused(f);
     }
-    Phase::Exponent(act_on(n, x, z, phases, row.0, state))
+    Phase::Exponent(act_on(n, phases.len(), x, z, row.0, state))
 }

@@ -12,7 +12,8 @@ use lib.Arith.{lt-of-le-ne}
 use lib.Dec.{ltb, eqb}
 use lib.ListN.{length, getD}
 use Rattle.encoding.specs.Words.{bit}
-use Rattle.encoding.specs.Refusals.{faultFrom, fault, joined, least, badLengths, differentRows, numberTests, doneOr, leftOr}
+use Rattle.encoding.specs.Refusals.{faultFrom, fault, joined, least, badLengths, otherLength, wrongLengths, differentRows, numberTests, doneOr, leftOr}
+use Rattle.encoding.specs.Set.{Mem, count, phaseUnits}
 use Rattle.encoding.specs.declared.Answer.the-variants.{Done, Refused}
 use Rattle.encoding.proofs.Scan.{none-of}
 
@@ -244,3 +245,10 @@ pub lengths-fit : (m w x z : ℕ) → badLengths m w x z ≡ false → (x ≡ m 
 lengths-fit m w x z e =
     let p = none-of (not (eqb x (m * w))) (not (eqb z (m * w))) e in
     (eqb-true x (m * w) (not-false _ (p .0)), eqb-true z (m * w) (not-false _ (p .1)))
+
+-- those of a set, its exponents' too
+pub set-lengths : (w : ℕ) (M : Mem) → wrongLengths w M ≡ false → (length (M .xs) ≡ count M * w) × (length (M .zs) ≡ count M * w) × (length (M .es) ≡ phaseUnits (count M))
+set-lengths w M e =
+    let p = none-of (badLengths (count M) w (length (M .xs)) (length (M .zs))) (otherLength M) e in
+    let l = lengths-fit (count M) w (length (M .xs)) (length (M .zs)) (p .0) in
+    (l .0, l .1, eqb-true (length (M .es)) (phaseUnits (count M)) (not-false _ (p .1)))

@@ -16,15 +16,16 @@ use Rattle.pauli.specs.Row.{Row}
 use Rattle.pauli.proofs.RowLaws.{row-eq}
 use Rattle.encoding.specs.Limits.{maxQubits, maxRows, wordsOf}
 use Rattle.encoding.specs.Words.{unpack, qubits, pack, layRows}
-use Rattle.encoding.specs.Set.{row, Mem, count, rowsIn, list, layIn, Packed, Valid}
-use Rattle.encoding.specs.Refusals.{fault, some, isOn, badBits, badPhases, setTests}
+use Rattle.encoding.specs.Set.{row, Mem, count, exponentAt, layExponents, rowsIn, list, layIn, bare, Packed, Valid, Sound}
+use Rattle.encoding.specs.Refusals.{fault, some, isOn, badBits, setTests}
 use Rattle.encoding.proofs.WordLaws.{Fit, pack-x, pack-z}
 use Rattle.encoding.proofs.Padding.{Clean, pack-cut}
 use Rattle.encoding.proofs.Reading.{length-qubits, length-unpack, length-pack, qubits-pack, unpack-same}
-use Rattle.encoding.proofs.Parts.{row-long, fit-part, rows-ext, length-list, getD-list, row-lay-list, length-lay-list}
-use Rattle.encoding.proofs.Scan.{some-none, any-none}
+use Rattle.encoding.proofs.Parts.{row-long, fit-part, rows-ext, row-lay-list, length-lay-list}
+use Rattle.encoding.proofs.Scan.{any-none}
 use Rattle.encoding.proofs.Spare.{off-all}
-use Rattle.encoding.proofs.Faults.{no-test, lengths-fit}
+use Rattle.encoding.proofs.Faults.{no-test, set-lengths}
+use Rattle.encoding.proofs.Exponents.{Laid, laid-from, laid-again, exponent-laid, exponent-past, small-exponents}
 
 -- ---- a row is packed when its words fit and its bits at n and above are zero
 
@@ -58,12 +59,12 @@ clean-of n w {xs} {zs} e h p =
 -- ---- what refusals 1 to 5 leave
 
 pub valid-of : (n : ℕ) (M : Mem) → Fit (M .xs) → Fit (M .zs) → fault (setTests n M) ≡ 0 → Valid n (wordsOf n) M
-unfolding badBits badPhases
+unfolding badBits
 valid-of n M fx fz e =
     let m = count M in
     let w = wordsOf n in
     let no = no-test 0 (setTests n M) e in
-    let l = lengths-fit m w (length (M .xs)) (length (M .zs)) (no 2) in
+    let l = set-lengths w M (no 2) in
     let clean : (r : ℕ) → r < m → Clean n (row w r (M .xs)) (row w r (M .zs)) =
     λ r h. off-all (drop n (unpack (row w r (M .xs)) (row w r (M .zs)))) (any-none (λ r. some isOn (drop n (unpack (row w r (M .xs)) (row w r (M .zs))))) m r (no 3) h) in
     record {
@@ -71,12 +72,9 @@ valid-of n M fx fz e =
       x-long = l .0;
       z-long = l .1;
       packed = λ r h. packed-of n w (row-long m w r (M .xs) h (l .0)) (row-long m w r (M .zs) h (l .1)) (fit-part (r * w) (r * w + w) (M .xs) fx) (fit-part (r * w) (r * w + w) (M .zs) fz) (clean r h);
-      small = λ r. below r (no 4) (decLt r m);
+      small = small-exponents (M .es) (l .2) (no 4);
+      exponents = laid-from m (exponentAt (M .es)) (l .2) (λ k h. refl);
     }
-  where
-    below : (r : ℕ) → some (λ e. ltb 3 e) (M .es) ≡ false → Dec (r < count M) → getD (M .es) r 0 < 4
-    below r e (yes h) = let g = ltb-false 3 (getD (M .es) r 0) (some-none (λ e. ltb 3 e) 0 (M .es) e r h) in omega arith
-    below r e (no h) = subst (λ (k : ℕ). k < 4) (sym (List·getD-eq-default (M .es) 0 (omega arith))) (omega arith)
 
 -- the limits, from the same
 pub within-limits : (n : ℕ) (M : Mem) → fault (setTests n M) ≡ 0 → (n ≤ maxQubits) × (count M ≤ maxRows)
@@ -86,8 +84,8 @@ within-limits n M e =
 
 -- ---- the rows of a set
 
-pub mem-eq : {M N : Mem} → M .xs ≡ N .xs → M .zs ≡ N .zs → M .es ≡ N .es → M ≡ N
-mem-eq {M} {N} p q r = λ i. record { xs = p i; zs = q i; es = r i }
+pub mem-eq : {M N : Mem} → M .m ≡ N .m → M .xs ≡ N .xs → M .zs ≡ N .zs → M .es ≡ N .es → M ≡ N
+mem-eq {M} {N} o p q r = λ i. record { m = o i; xs = p i; zs = q i; es = r i }
 
 module _ (n w : ℕ) {M : Mem} (v : Valid n w M) where
   pub x-row : (r : ℕ) → r < count M → length (row w r (M .xs)) ≡ w
@@ -111,10 +109,10 @@ module _ (n w : ℕ) {M : Mem} (v : Valid n w M) where
       let m = count M in
       let qs : ℕ → List Pauli = λ k. qubits n (row w k (M .xs)) (row w k (M .zs)) in
       mem-eq
+      refl
       (rows-ext m w (layRows hasX w (list m qs)) (M .xs) (length-lay-list hasX w m qs) (v .x-long) (λ r h. row-lay-list hasX w m qs r h ∙ sym (v .packed r h .x-is)))
       (rows-ext m w (layRows hasZ w (list m qs)) (M .zs) (length-lay-list hasZ w m qs) (v .z-long) (λ r h. row-lay-list hasZ w m qs r h ∙ sym (v .packed r h .z-is)))
-      (ext-getD 0 (list m (λ k. getD (M .es) k 0)) (M .es) (length-list m (λ k. getD (M .es) k 0))
-      (λ i h. getD-list m (λ k. getD (M .es) k 0) i 0 (subst (λ (k : ℕ). i < k) (length-list m (λ k. getD (M .es) k 0)) h)))
+      (sym (v .exponents))
 
 -- the memory that holds given rows is the one laid from them
 pub laid : (n w : ℕ) {M : Mem} {σ : ℕ → Row} → Valid n w M → rowsIn n w M ≡ σ → M ≡ layIn w (count M) σ
@@ -146,18 +144,26 @@ module _ (n w m : ℕ) (σ : ℕ → Row) (wide : n ≤ w * 64) where
 
   pub count-lay : count (layIn w m σ) ≡ m
   unfolding layIn
-  count-lay = length-list m (λ k. σ k .p)
+  count-lay = refl
 
-  p-laid : (r : ℕ) → r < m → getD (layIn w m σ .es) r 0 ≡ σ r .p
+  p-laid : (r : ℕ) → r < m → σ r .p < 4 → exponentAt (layIn w m σ .es) r ≡ σ r .p
   unfolding layIn
-  p-laid r h = getD-list m (λ k. σ k .p) r 0 h
+  p-laid r h s = exponent-laid m (λ k. σ k .p) r h s
+
+  p-past : (r : ℕ) → m ≤ r → exponentAt (layIn w m σ .es) r ≡ 0
+  unfolding layIn
+  p-past r h = exponent-past m (λ k. σ k .p) r h
+
+  e-laid : ((r : ℕ) → r < m → σ r .p < 4) → layIn w m σ .es ≡ layExponents (layIn w m σ .m) (exponentAt (layIn w m σ .es))
+  unfolding layIn
+  e-laid s = laid-again m (λ k. σ k .p) s
 
   qubits-laid : (r : ℕ) → r < m → length (σ r .ps) ≡ n → qubits n (row w r (layIn w m σ .xs)) (row w r (layIn w m σ .zs)) ≡ σ r .ps
   qubits-laid r h l = ap₂ (qubits n) (x-laid r h) (z-laid r h) ∙ qubits-pack n w (σ r .ps) l wide
 
-  pub read-lay : (r : ℕ) → r < m → length (σ r .ps) ≡ n → rowsIn n w (layIn w m σ) r ≡ σ r
+  pub read-lay : (r : ℕ) → r < m → length (σ r .ps) ≡ n → σ r .p < 4 → rowsIn n w (layIn w m σ) r ≡ σ r
   unfolding rowsIn
-  read-lay r h l = row-eq (qubits-laid r h l) (p-laid r h)
+  read-lay r h l s = row-eq (qubits-laid r h l) (p-laid r h s)
 
   pub valid-lay : Proper n m σ → Valid n w (layIn w m σ)
   valid-lay p =
@@ -167,6 +173,7 @@ module _ (n w m : ℕ) (σ : ℕ → Row) (wide : n ≤ w * 64) where
         z-long = lays-z ∙ ap (λ (k : ℕ). k * w) (sym count-lay);
         packed = λ r h. pk r (subst (λ (k : ℕ). r < k) count-lay h);
         small = λ r. sm r (decLt r m);
+        exponents = e-laid (p .small);
       }
     where
       pk : (r : ℕ) → r < m → Packed n w (row w r (layIn w m σ .xs)) (row w r (layIn w m σ .zs))
@@ -176,6 +183,26 @@ module _ (n w m : ℕ) (σ : ℕ → Row) (wide : n ≤ w * 64) where
             z-is = z-laid r h ∙ ap (pack hasZ w) (sym (qubits-laid r h (p .long r h)));
           }
 
-      sm : (r : ℕ) → Dec (r < m) → getD (layIn w m σ .es) r 0 < 4
-      sm r (yes h) = subst (λ (k : ℕ). k < 4) (sym (p-laid r h)) (p .small r h)
-      sm r (no h) = subst (λ (k : ℕ). k < 4) (sym (List·getD-eq-default (layIn w m σ .es) 0 (omega (arith, count-lay)))) (omega arith)
+      sm : (r : ℕ) → Dec (r < m) → exponentAt (layIn w m σ .es) r < 4
+      sm r (yes h) = subst (λ (k : ℕ). k < 4) (sym (p-laid r h (p .small r h))) (p .small r h)
+      sm r (no h) = subst (λ (k : ℕ). k < 4) (sym (p-past r (omega arith))) (omega arith)
+
+-- ---- the bits alone
+
+pub bare-valid : (n w : ℕ) {M : Mem} → Valid n w M → Valid n w (bare (M .m) (M .xs) (M .zs))
+bare-valid n w {M} v =
+    record {
+      wide = v .wide;
+      x-long = v .x-long;
+      z-long = v .z-long;
+      packed = v .packed;
+      small = λ r. zero-small (M .m) r (decLt r (M .m));
+      exponents = laid-again (M .m) (λ _. 0) (λ k h. omega arith);
+    }
+  where
+    zero-small : (m r : ℕ) → Dec (r < m) → exponentAt (layExponents m (λ _. 0)) r < 4
+    zero-small m r (yes h) = subst (λ (k : ℕ). k < 4) (sym (exponent-laid m (λ _. 0) r h (omega arith))) (omega arith)
+    zero-small m r (no h) = subst (λ (k : ℕ). k < 4) (sym (exponent-past m (λ _. 0) r (omega arith))) (omega arith)
+
+pub bare-sound : {n : ℕ} {M : Mem} → Sound n M → Sound n (bare (M .m) (M .xs) (M .zs))
+bare-sound {n} s = record { valid = bare-valid n (wordsOf n) (s .valid); few-qubits = s .few-qubits; few-rows = s .few-rows }

@@ -15,13 +15,14 @@ use Rattle.pauli.specs.Row.{Row, bitRow}
 use Rattle.pauli.proofs.RowLaws.{same-bits}
 use Rattle.encoding.specs.Limits.{maxQubits, maxRows, wordsOf}
 use Rattle.encoding.specs.Words.{unpack, qubits, pack, layRows}
-use Rattle.encoding.specs.Set.{row, Mem, count, rowsIn, rowsOf, list, layIn, Valid, Sound}
-use Rattle.encoding.specs.Refusals.{faultFrom, fault, least, some, someBelow, isOn, badLengths, badBits, badPhases, setTests, outTests, numberTests, tooLarge, readTests, rowsTests}
+use Rattle.encoding.specs.Set.{row, Mem, count, phaseUnits, exponentAt, layExponents, rowsIn, rowsOf, list, layIn, Valid, Sound}
+use Rattle.encoding.specs.Refusals.{faultFrom, fault, least, some, someBelow, isOn, wrongLengths, badBits, setTests, outTests, numberTests, tooLarge, readTests, rowsTests}
 use Rattle.encoding.proofs.Padding.{of-only}
-use Rattle.encoding.proofs.Parts.{row-long, rows-ext, length-list, getD-list, row-lay-list, length-lay-list}
+use Rattle.encoding.proofs.Parts.{row-long, rows-ext, row-lay-list, length-lay-list}
 use Rattle.encoding.proofs.Reading.{length-qubits}
-use Rattle.encoding.proofs.Scan.{none-of, some-none, some-never, any-never}
-use Rattle.encoding.proofs.Faults.{no-test, lengths-fit, joined-fault, least-none, not-large, number-is}
+use Rattle.encoding.proofs.Scan.{none-of, any-never}
+use Rattle.encoding.proofs.Faults.{no-test, set-lengths, joined-fault, least-none, not-large, number-is}
+use Rattle.encoding.proofs.Exponents.{laid-from, laid-long, exponents-same, small-exponents, passed-exponents}
 use Rattle.encoding.proofs.Memory.{mem-eq, Proper, clean, row-count, within-limits}
 
 -- ---- the tests of a set that is read
@@ -32,30 +33,30 @@ sound-of n M e v z = let l = within-limits n M (sym e ∙ z) in record { valid =
 
 -- what a set that is passed holds, whatever its words
 pub read-proper : (n : ℕ) (M : Mem) → fault (setTests n M) ≡ 0 → Proper n (count M) (rowsOf n M)
-unfolding rowsIn badPhases
+unfolding rowsIn
 read-proper n M e =
     let m = count M in
     let w = wordsOf n in
     let no = no-test 0 (setTests n M) e in
-    let l = lengths-fit m w (length (M .xs)) (length (M .zs)) (no 2) in
+    let l = set-lengths w M (no 2) in
     record {
       long = λ r h.
           let x = row-long m w r (M .xs) h (l .0) in
           length-qubits n (row w r (M .xs)) (row w r (M .zs)) (row-long m w r (M .zs) h (l .1) ∙ sym x) (omega (arith, x));
-      small = λ r h. let g = ltb-false 3 (getD (M .es) r 0) (some-none (λ e. ltb 3 e) 0 (M .es) (no 4) r h) in omega arith;
+      small = λ r h. small-exponents (M .es) (l .2) (no 4) r;
     }
 
 -- a row set within the limits is passed, and so it is with a number that is not too large
 pub set-passes : (n : ℕ) (M : Mem) → Sound n M → fault (setTests n M) ≡ 0
-unfolding faultFrom badBits badPhases
+unfolding faultFrom badBits
 set-passes n M s =
     let m = count M in
     let w = wordsOf n in
     let v = s .valid in
     let b4 : someBelow m (λ r. some isOn (drop n (unpack (row w r (M .xs)) (row w r (M .zs))))) ≡ false
     = any-never _ m (λ r h. of-only isOn I refl (drop n (unpack (row w r (M .xs)) (row w r (M .zs)))) (clean n w v r h)) in
-    let b5 : some (λ e. ltb 3 e) (M .es) ≡ false = some-never (λ e. ltb 3 e) 0 (M .es) (λ k _. le-ltb 3 (getD (M .es) k 0) (let l = v .small k in omega arith)) in
-    simp (le-ltb maxQubits n (s .few-qubits), le-ltb maxRows m (s .few-rows), eq-eqb (length (M .xs)) (m * w) (v .x-long), eq-eqb (length (M .zs)) (m * w) (v .z-long), b4, b5)
+    let b5 = passed-exponents (M .es) (v .small) in
+    simp (le-ltb maxQubits n (s .few-qubits), le-ltb maxRows m (s .few-rows), eq-eqb (length (M .xs)) (m * w) (v .x-long), eq-eqb (length (M .zs)) (m * w) (v .z-long), eq-eqb (length (M .es)) (phaseUnits m) (laid-long m (v .exponents)), b4, b5)
 
 pub read-passes : (n : ℕ) (M : Mem) → Sound n M → (large : Bool) → large ≡ false → fault (readTests n M large) ≡ 0
 unfolding least
@@ -77,18 +78,20 @@ pub record Shaped (n m : ℕ) (O : Mem) : Type 0 where
   pub rows : count O ≡ m
   pub x-long : length (O .xs) ≡ count O * wordsOf n
   pub z-long : length (O .zs) ≡ count O * wordsOf n
+  pub e-long : length (O .es) ≡ phaseUnits (count O)
 
 pub shape-of : (n m : ℕ) (O : Mem) → fault (outTests n m O) ≡ 0 → Shaped n m O
 shape-of n m O e =
     let no = no-test 0 (outTests n m O) e in
-    let s = none-of (not (eqb (count O) m)) (badLengths (count O) (wordsOf n) (length (O .xs)) (length (O .zs))) (no 2) in
-    let l = lengths-fit (count O) (wordsOf n) (length (O .xs)) (length (O .zs)) (s .1) in
+    let s = none-of (not (eqb (count O) m)) (wrongLengths (wordsOf n) O) (no 2) in
+    let l = set-lengths (wordsOf n) O (s .1) in
     record {
       few-qubits = ltb-false maxQubits n (no 0);
       few-rows = ltb-false maxRows (count O) (no 1);
       rows = eqb-true (count O) m (not-false _ (s .0));
       x-long = l .0;
       z-long = l .1;
+      e-long = l .2;
     }
 
 -- ---- two sets of the same n and m: rows that agree in every bit have the same words, in every phase the same bytes
@@ -114,7 +117,7 @@ module _ (n w : ℕ) {C D : Mem} (v : Valid n w C) (v′ : Valid n w D) (m : cou
 
   pub same-bytes : ((k : ℕ) → k < count C → rowsIn n w C k .p ≡ rowsIn n w D k .p) → C .es ≡ D .es
   unfolding rowsIn
-  same-bytes f = ext-getD 0 (C .es) (D .es) m f
+  same-bytes f = exponents-same (count C) (v .exponents) (subst (λ (k : ℕ). D .es ≡ layExponents k (exponentAt (D .es))) (sym m) (v′ .exponents)) f
 
 -- ---- words and bytes that hold the rows are what is laid from them
 
@@ -122,18 +125,18 @@ module _ (n w : ℕ) {C D : Mem} (v : Valid n w C) (v′ : Valid n w D) (m : cou
 pub record Holds (w m r : ℕ) (σ : ℕ → Row) (M : Mem) : Type 0 where
   pub x-long : length (M .xs) ≡ m * w
   pub z-long : length (M .zs) ≡ m * w
-  pub p-long : length (M .es) ≡ m
+  pub many : count M ≡ m
+  pub p-long : length (M .es) ≡ phaseUnits m
   pub x-row : (k : ℕ) → k < r → row w k (M .xs) ≡ pack hasX w (σ k .ps)
   pub z-row : (k : ℕ) → k < r → row w k (M .zs) ≡ pack hasZ w (σ k .ps)
-  pub byte : (k : ℕ) → k < r → getD (M .es) k 0 ≡ σ k .p
+  pub byte : (k : ℕ) → k < r → exponentAt (M .es) k ≡ σ k .p
 
 pub laid-by : {w m : ℕ} {σ : ℕ → Row} {M : Mem} → Holds w m m σ M → M ≡ layIn w m σ
 unfolding layIn
 laid-by {w} {m} {σ} {M} h =
     let ps : ℕ → List Pauli = λ k. σ k .ps in
-    let e : ℕ → ℕ = λ k. σ k .p in
     mem-eq
+    (h .many)
     (rows-ext m w (M .xs) (layRows hasX w (list m ps)) (h .x-long) (length-lay-list hasX w m ps) (λ r l. h .x-row r l ∙ sym (row-lay-list hasX w m ps r l)))
     (rows-ext m w (M .zs) (layRows hasZ w (list m ps)) (h .z-long) (length-lay-list hasZ w m ps) (λ r l. h .z-row r l ∙ sym (row-lay-list hasZ w m ps r l)))
-    (ext-getD 0 (M .es) (list m e) (h .p-long ∙ sym (length-list m e))
-    (λ i l. let k : i < m = subst (λ (j : ℕ). i < j) (h .p-long) l in h .byte i k ∙ sym (getD-list m e i 0 k)))
+    (laid-from m (λ k. σ k .p) (h .p-long) (h .byte))

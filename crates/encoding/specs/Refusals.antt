@@ -8,7 +8,7 @@ use lib.ListN.{length, drop}
 use Rattle.pauli.specs.Pauli.{Pauli, hasX, hasZ}
 use Rattle.encoding.specs.Limits.{maxQubits, maxRows, maxPhase, wordsOf}
 use Rattle.encoding.specs.Words.{unpack, unbits}
-use Rattle.encoding.specs.Set.{row, Mem, count}
+use Rattle.encoding.specs.Set.{row, Mem, count, phaseUnits}
 use Rattle.encoding.specs.declared.Answer.{Answer}
 use Rattle.encoding.specs.declared.Answer.the-variants.{Done, Refused}
 
@@ -62,6 +62,13 @@ manyRows m = ltb maxRows m
 abbrev pub badLengths : ℕ → ℕ → ℕ → ℕ → Bool
 badLengths m w x z = not (eqb x (m * w)) || not (eqb z (m * w))
 
+-- or the exponents are not as long as m of them are
+abbrev pub otherLength : Mem → Bool
+otherLength M = not (eqb (length (M .es)) (phaseUnits (count M)))
+
+abbrev pub wrongLengths : ℕ → Mem → Bool
+wrongLengths w M = badLengths (count M) w (length (M .xs)) (length (M .zs)) || otherLength M
+
 -- 4: a bit set at n or above, in some row
 unfoldable pub badBits : ℕ → ℕ → ℕ → List ℕ → List ℕ → Bool
 badBits n m w xs zs = someBelow m (λ r. some isOn (drop n (unpack (row w r xs) (row w r zs))))
@@ -75,7 +82,7 @@ abbrev pub setTests : ℕ → Mem → List Bool
 setTests n M =
     manyQubits n
     ∷ manyRows (count M)
-    ∷ badLengths (count M) (wordsOf n) (length (M .xs)) (length (M .zs))
+    ∷ wrongLengths (wordsOf n) M
     ∷ badBits n (count M) (wordsOf n) (M .xs) (M .zs)
     ∷ badPhases (M .es)
     ∷ []
@@ -85,7 +92,7 @@ abbrev pub outTests : ℕ → ℕ → Mem → List Bool
 outTests n m M =
     manyQubits n
     ∷ manyRows (count M)
-    ∷ (not (eqb (count M) m) || badLengths (count M) (wordsOf n) (length (M .xs)) (length (M .zs)))
+    ∷ (not (eqb (count M) m) || wrongLengths (wordsOf n) M)
     ∷ []
 
 -- 3: sets of different m

@@ -8,12 +8,14 @@ ghost use lib.ListN.{length, getD, drop, set};
 ghost use Rattle.pauli.specs.Pauli.{ofBits, hasX, hasZ};
 ghost use Rattle.encoding.specs.Limits.{maxQubits, maxRows, maxWords, wordsOf};
 ghost use Rattle.encoding.specs.Words.{odd, bitAt, withBit, word, unpack};
-ghost use Rattle.encoding.specs.Set.{Valid, QubitSet};
+ghost use Rattle.encoding.specs.Set.{exponentAt, withExponent, Valid, QubitSet};
 ghost use Rattle.encoding.specs.Lent.{before};
 ghost use Rattle.pauli.specs.declared.PauliMatrix.the-variants.{I};
 ghost use Rattle.encoding.specs.Refusals.{fault, least, some, isOn, badLengths, badBits, badPhases, setTests, outTests, stateTests};
+use pauli::ComplexSign;
 use pauli::PauliMatrix;
 use pauli::QubitNumber;
+use pauli::RowNumber;
 
 pub const MAX_QUBITS: usize = 4096;
 
@@ -101,6 +103,28 @@ fn bad_phases(p: &[u8]) -> bool
         i += 1;
     }
     bad
+}
+
+// The exponent of a row; past the last it is 0.
+pub fn get_exponent(p: &[u8], r: RowNumber) -> ComplexSign
+    ensures { λ e. ⌜ e .0 ≡ exponentAt (now (p .entry)) (r .0) ⌝ }
+{
+    let k = r.0;
+    if k < p.len() {
+        return ComplexSign(p[k]);
+    }
+    ComplexSign(0)
+}
+
+// The exponent of a row becomes e; past the last nothing is done.
+pub fn set_exponent(p: &mut [u8], r: RowNumber, e: ComplexSign)
+    ensures { λ _. ⌜ now (p .exit) ≡ withExponent (now (p .entry)) (r .0) (e .0) ⌝ }
+{
+    let k = r.0;
+    let v = e.0;
+    if k < p.len() {
+        p[k] = v;
+    }
 }
 
 // The number where the test passes, else the rest of the table.

@@ -19,10 +19,10 @@ pub struct Factor {
 }
 
 // The sum of three exponents of i, mod 4.
-pub fn add_signs(a: u8, b: u8, e: u8) -> u8
-    ensures { λ r. ⌜ r ≡ (a + b + e) % 4 ⌝ }
+pub fn add_signs(a: ComplexSign, b: ComplexSign, e: ComplexSign) -> ComplexSign
+    ensures { λ r. ⌜ r .0 ≡ (a .0 + b .0 + e .0) % 4 ⌝ }
 {
-    ((a as u16 + b as u16 + e as u16) % 4) as u8
+    ComplexSign(((a.0 as u16 + b.0 as u16 + e.0 as u16) % 4) as u8)
 }
 
 // How many bits of x are set.

@@ -13,7 +13,7 @@ use lib.Seq.{ext-getD}
 use Rattle.pauli.specs.declared.PauliMatrix.the-variants.{I}
 use Rattle.pauli.specs.Row.{sameQubits, sameRow}
 use Rattle.encoding.specs.Words.{qubits}
-use Rattle.encoding.specs.Set.{row, Mem, count, rowsIn, Valid}
+use Rattle.encoding.specs.Set.{row, Mem, count, exponentAt, rowsIn, Valid}
 use Rattle.encoding.proofs.Parts.{row-end, getD-part, length-part}
 use Rattle.encoding.proofs.Sets.{row-words}
 use Rattle.reduction.specs.Checker.{firstDiff}
@@ -49,16 +49,16 @@ module _ (n w : ℕ) {A B : Mem} (v : Valid n w A) (v′ : Valid n w B) (m : cou
   back e = row-words n w v v′ m k h (qubits→ n _ _ e)
 
   -- the words are the same: the phase decides
-  pub row-same : row w k (A .xs) ≡ row w k (B .xs) → row w k (A .zs) ≡ row w k (B .zs) → eqb (getD (A .es) k 0) (getD (B .es) k 0) ≡ sameRow n (rowsIn n w A k) (rowsIn n w B k)
+  pub row-same : row w k (A .xs) ≡ row w k (B .xs) → row w k (A .zs) ≡ row w k (B .zs) → eqb (exponentAt (A .es) k) (exponentAt (B .es) k) ≡ sameRow n (rowsIn n w A k) (rowsIn n w B k)
   unfolding rowsIn
   row-same p q =
       let e : qubits n (row w k (A .xs)) (row w k (A .zs)) ≡ qubits n (row w k (B .xs)) (row w k (B .zs)) = ap₂ (qubits n) p q in
-      sym (ap (λ (t : Bool). t && eqb (getD (A .es) k 0) (getD (B .es) k 0)) (→qubits n _ _ (λ i _. ap (λ l. getD l i I) e)))
+      sym (ap (λ (t : Bool). t && eqb (exponentAt (A .es) k) (exponentAt (B .es) k)) (→qubits n _ _ (λ i _. ap (λ l. getD l i I) e)))
 
   no-qubits : (sameQubits n (qubits n (row w k (A .xs)) (row w k (A .zs))) (qubits n (row w k (B .xs)) (row w k (B .zs))) ≡ true → ⊥)
       → false ≡ sameRow n (rowsIn n w A k) (rowsIn n w B k)
   unfolding rowsIn
-  no-qubits ne = sym (ap (λ (t : Bool). t && eqb (getD (A .es) k 0) (getD (B .es) k 0)) (not-so _ ne))
+  no-qubits ne = sym (ap (λ (t : Bool). t && eqb (exponentAt (A .es) k) (exponentAt (B .es) k)) (not-so _ ne))
 
   pub row-x-not : (row w k (A .xs) ≡ row w k (B .xs) → ⊥) → false ≡ sameRow n (rowsIn n w A k) (rowsIn n w B k)
   row-x-not ne = no-qubits (λ t. ne (back t .0))

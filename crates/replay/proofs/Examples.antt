@@ -4,7 +4,7 @@ use mathlib.Core.List.{List, [], _∷_}
 use Prim.Native.Nat.{ℕ}
 use Rattle.pauli.specs.Row.{padMul, mulRow, bitOf, sameQubits}
 use Rattle.encoding.specs.Words.{word, unpack, join, pack, layRows}
-use Rattle.encoding.specs.Set.{Mem, mem, rowsIn, list, layIn}
+use Rattle.encoding.specs.Set.{Mem, mem, exponentAt, layExponents, rowsIn, list, layIn}
 use Rattle.encoding.specs.Refusals.{joined, some, someBelow, badBits, badPhases, leftOr}
 use Rattle.reduction.specs.Lists.{All, has, distinct, every}
 use Rattle.reduction.specs.Rule.{mulAt}
@@ -70,5 +70,5 @@ lines =
     ∷ []
 
 pub page : All Answered lines
-unfolding padMul mulRow bitOf sameQubits word unpack join pack layRows rowsIn list layIn byRank numbered joined some someBelow badBits badPhases has distinct every mulAt replay pairs zeroIn onlyIn reducedFrom reduced good firstBad firstDiff verdictBy verdict working workingBy
+unfolding padMul mulRow bitOf sameQubits word unpack join pack layRows exponentAt layExponents rowsIn list layIn byRank numbered joined some someBelow badBits badPhases has distinct every mulAt replay pairs zeroIn onlyIn reducedFrom reduced good firstBad firstDiff verdictBy verdict working workingBy
 page = ((refl, refl), ((refl, refl), ((refl, refl), ((refl, refl), ((refl, refl), ((refl, refl), ((refl, refl), ((refl, refl), ((refl, refl), ((refl, refl), tt))))))))))

@@ -56,7 +56,7 @@ replayed n M [] s h = record { sound = s; many = refl; rows-are = refl }
 replayed n M (e ∷ es) s h =
     let N = mulIn n (e .target) (e .source) M in
     let v = mul-view s (e .target) (e .source) (h .0 .0) (h .0 .1) in
-    let m : count N ≡ count M = v .keeps .e-len in
+    let m : count N ≡ count M = v .keeps .many in
     let r = replayed n N es (v .keeps .sound) (all-mono (λ d i. (omega (arith, m, i .0), omega (arith, m, i .1))) es (h .1)) in
     record { sound = r .sound; many = r .many ∙ m; rows-are = r .rows-are ∙ ap (λ σ. replay (mulRow n) σ es) (v .rows-are) }
 

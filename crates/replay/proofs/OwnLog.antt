@@ -59,12 +59,12 @@ yes-left {T} {L} {left} c =
     let v : Valid n w W = valid-lay n w m τ (s .of-task .sound .valid .wide) p in
     let many : count W ≡ m = count-lay n w m τ (s .of-task .sound .valid .wide) in
     let as-many : count W ≡ count C = many ∙ sym (s .of-claim .as-many) in
-    let at : (k : ℕ) → k < count W → rowsIn n w W k ≡ τ k = λ k h. let i : k < m = omega arith in read-lay n w m τ (s .of-task .sound .valid .wide) k i (p .long k i) in
+    let at : (k : ℕ) → k < count W → rowsIn n w W k ≡ τ k = λ k h. let i : k < m = omega arith in read-lay n w m τ (s .of-task .sound .valid .wide) k i (p .long k i) (p .small k i) in
     let u = same-words n w v (s .of-claim .claimed-set) as-many (λ k h j g. ap (λ r. bitRow n r j) (at k h) ∙ R .replayed k (omega arith) .bits j g) in
     c .rows
     ∙ ap (λ f. leftOr f (T .start) (workingFor T L)) (y .0)
     ∙ ap (λ o. lay n m (workingBy (mulRow n) o σ es)) (none-bad (T .listed) (T .extra) 0 es (R .entries))
-    ∙ mem-eq (u .0) (u .1) (same-bytes n w v (s .of-claim .claimed-set) as-many (λ k h. ap (λ r. r .p) (at k h) ∙ R .replayed k (omega arith) .phase))
+    ∙ mem-eq as-many (u .0) (u .1) (same-bytes n w v (s .of-claim .claimed-set) as-many (λ k h. ap (λ r. r .p) (at k h) ∙ R .replayed k (omega arith) .phase))
 
 -- ---- our own finished logs
 
@@ -140,7 +140,7 @@ module _ (T : Task) {M′ : Mem} {log′ : List ℕ} {k t : ℕ} (F : Finished (
       let m = count (T .start) in
       let σ = rowsOf n (T .start) in
       let at : (j : ℕ) → j < m → rowsOf n M′ j ≡ run .rows j
-      = λ j h. ap (λ N. rowsOf n N j) (F .laid-out) ∙ read-lay n (wordsOf n) m (run .rows) wide j h (proper .long j h) in
+      = λ j h. ap (λ N. rowsOf n N j) (F .laid-out) ∙ read-lay n (wordsOf n) m (run .rows) wide j h (proper .long j h) (proper .small j h) in
       ap (λ es. verdict (bitRow n) (mulRow n) (sameRow n) m (T .order) (T .listed) (T .extra) σ es (rowsOf n M′)) cut
       ∙ ap (λ d. verdictBy (firstBad (T .listed) (T .extra) 0 (run .log)) d (reduced (bitRow n) (T .order) (T .listed) (T .extra) (replay (mulRow n) σ (run .log))))
       (claimed-same (sameRow n) (replay (mulRow n) σ (run .log)) (rowsOf n M′) (run .rows) m 0 (λ j h. at j (omega arith)))

@@ -71,7 +71,9 @@ fn same_row(
     if !same_words(w, z, cz, k) {
         return false;
     }
-    phases[k] == cphases[k]
+    let a = encoding::get_exponent(phases, RowNumber(k));
+    let b = encoding::get_exponent(cphases, RowNumber(k));
+    a.0 == b.0
 }
 
 // The first row that differs; the number of rows if there is none.

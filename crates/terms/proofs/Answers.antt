@@ -145,7 +145,7 @@ module _ (n : ℕ) (order listed extra : List ℕ) {M₀ : Mem} {log₀ : List �
   there = length-first (s .entries) log (L .room)
 
   rows-laid : M ≡ lay n (count M₀) (rowsOf n M)
-  rows-laid = laid n (wordsOf n) (L .keeps .sound .valid) refl ∙ ap (λ m. lay n m (rowsOf n M)) (L .keeps .e-len)
+  rows-laid = laid n (wordsOf n) (L .keeps .sound .valid) refl ∙ ap (λ m. lay n m (rowsOf n M)) (L .keeps .many)
 
   log-laid : log ≡ logged (pairs (take (s .entries + s .entries) log)) log₀
   log-laid = logged-is (s .entries) log log₀ (L .room) (L .log-len) (L .past)

@@ -151,7 +151,7 @@ module _ {n : ℕ} {order listed extra : List ℕ} {M M′ : Mem} {log′ : List
 
   pub finished-rows : (r : ℕ) → r < count M → rowsOf n M′ r ≡ reduce (bitRow n) (mulRow n) order listed extra (rowsOf n M) .rows r
   finished-rows r h =
-      ap (λ N. rowsOf n N r) (F .laid-out) ∙ read-lay n (wordsOf n) (count M) (reduce (bitRow n) (mulRow n) order listed extra (rowsOf n M) .rows) (s .valid .wide) r h (rule-proper .long r h)
+      ap (λ N. rowsOf n N r) (F .laid-out) ∙ read-lay n (wordsOf n) (count M) (reduce (bitRow n) (mulRow n) order listed extra (rowsOf n M) .rows) (s .valid .wide) r h (rule-proper .long r h) (rule-proper .small r h)
 
   pub finished-sound : Sound n M′
   finished-sound =

@@ -15,11 +15,12 @@ use lib.ListN.{length, getD, set}
 use Rattle.pauli.specs.Pauli.{Pauli, hasX, hasZ, mul, phases, clashes}
 use Rattle.encoding.specs.Limits.{maxQubits, maxRows, wordsOf}
 use Rattle.encoding.specs.Words.{unpack, pack}
-use Rattle.encoding.specs.Set.{part, row, Mem, mem, count, Sound}
+use Rattle.encoding.specs.Set.{part, row, Mem, memOf, count, phaseUnits, exponentAt, withExponent, Sound}
 use Rattle.encoding.specs.Refusals.{faultFrom, fault, outTests}
 use Rattle.encoding.proofs.Sets.{shape-of}
 use Rattle.encoding.proofs.Parts.{row-end, row-long}
 use Rattle.encoding.proofs.Memory.{mem-eq}
+use Rattle.encoding.proofs.Exponents.{laid-long}
 use Rattle.encoding.proofs.Reading.{length-pack}
 use Rattle.products.specs.Leaves.{Outside, inside, ProductIn}
 use Rattle.products.specs.declared.Factor.{Factor}
@@ -50,9 +51,9 @@ module _ {w a b : ℕ} {M : Mem} (h : InRows w a b M) where
       })
 
   -- what the leaf and the byte written leave
-  pub rows-multiplied : {xs′ zs′ : List ℕ} {e : Factor} {p : ℕ} → ProductIn w (a * w) (b * w) (M .xs) (M .zs) xs′ zs′ e → p ≡ (getD (M .es) a 0 + getD (M .es) b 0 + e .phase .0) % 4
-      → RowsMultiplied w a b M (mem xs′ zs′ (set (M .es) a p)) (e .clashes)
-  rows-multiplied {xs′} {zs′} {e} q f = record { factor = e; words = q .done rows-inside; bytes = ap (set (M .es) a) f; number = refl }
+  pub rows-multiplied : {xs′ zs′ : List ℕ} {e : Factor} {p : List ℕ} → ProductIn w (a * w) (b * w) (M .xs) (M .zs) xs′ zs′ e → p ≡ withExponent (M .es) a ((exponentAt (M .es) a + exponentAt (M .es) b + e .phase .0) % 4)
+      → (m : ℕ) → m ≡ count M → RowsMultiplied w a b M (memOf m xs′ zs′ p) (e .clashes)
+  rows-multiplied {xs′} {zs′} {e} q f m l = record { factor = e; words = q .done rows-inside; many = l; exponents = f; number = refl }
 
 pub in-rows : (n : ℕ) (M : Mem) (w a b : ℕ) → w ≡ wordsOf n → fault (outTests n (count M) M) ≡ 0 → a < count M → b < count M → InRows w a b M
 in-rows n M w a b hw e ha hb =
@@ -75,7 +76,7 @@ module _ (n a b : ℕ) (M : Mem) where
       let w = wordsOf n in
       let A = unpack (row w a (M .xs)) (row w a (M .zs)) in
       let B = unpack (row w b (M .xs)) (row w b (M .zs)) in
-      (sym (ap (λ t. cond t (mem (putRow w a (pack hasX w (mul A B)) (M .xs)) (putRow w a (pack hasZ w (mul A B)) (M .zs)) (set (M .es) a ((getD (M .es) a 0 + getD (M .es) b 0 + phases A B) % 4))) M) e), sym (ap (λ t. cond t (clashes A B % 65536) 0) e))
+      (sym (ap (λ t. cond t (memOf (count M) (putRow w a (pack hasX w (mul A B)) (M .xs)) (putRow w a (pack hasZ w (mul A B)) (M .zs)) (withExponent (M .es) a ((exponentAt (M .es) a + exponentAt (M .es) b + phases A B) % 4))) M) e), sym (ap (λ t. cond t (clashes A B % 65536) 0) e))
 
   pub no-shape : (fault (outTests n (count M) M) ≡ 0 → ⊥) → (M ≡ mulIn n a b M) × (0 ≡ clashesIn n a b M)
   no-shape ne = stays (ap (λ t. t && (ltb a (count M) && ltb b (count M))) (ne-eqb _ 0 ne))
@@ -107,12 +108,13 @@ module _ (n a b : ℕ) (M : Mem) (e : fault (outTests n (count M) M) ≡ 0) (ha 
       let q′ : RowsMultiplied v a b M M′ c = subst (λ k. RowsMultiplied k a b M M′ c) hw q in
       let P = q′ .words .here in
       let l : length (row v a (M .xs)) ≡ v = row-long (count M) v a (M .xs) ha (shape-of n (count M) M e .x-long) in
-      let product-now : M′ ≡ mem (putRow v a (pack hasX v (mul A B)) (M .xs)) (putRow v a (pack hasZ v (mul A B)) (M .zs)) (set (M .es) a ((getD (M .es) a 0 + getD (M .es) b 0 + phases A B) % 4))
+      let product-now : M′ ≡ memOf (count M) (putRow v a (pack hasX v (mul A B)) (M .xs)) (putRow v a (pack hasZ v (mul A B)) (M .zs)) (withExponent (M .es) a ((exponentAt (M .es) a + exponentAt (M .es) b + phases A B) % 4))
       = mem-eq
+      (q′ .many)
       (put-is (a * v) v (q′ .words .x-rest) ∙ ap (putMid (a * v) v (M .xs)) (P .x-words ∙ ap (λ k. pack hasX k (mul A B)) l))
       (put-is (a * v) v (q′ .words .z-rest) ∙ ap (putMid (a * v) v (M .zs)) (P .z-words ∙ ap (λ k. pack hasZ k (mul A B)) l))
-      (q′ .bytes ∙ ap (set (M .es) a) (omega (arith, P .factor .exponent))) in (
-        product-now ∙ sym (ap (λ t. cond t (mem (putRow v a (pack hasX v (mul A B)) (M .xs)) (putRow v a (pack hasZ v (mul A B)) (M .zs)) (set (M .es) a ((getD (M .es) a 0 + getD (M .es) b 0 + phases A B) % 4))) M) both),
+      (q′ .exponents ∙ ap (withExponent (M .es) a) (omega (arith, P .factor .exponent))) in (
+        product-now ∙ sym (ap (λ t. cond t (memOf (count M) (putRow v a (pack hasX v (mul A B)) (M .xs)) (putRow v a (pack hasZ v (mul A B)) (M .zs)) (withExponent (M .es) a ((exponentAt (M .es) a + exponentAt (M .es) b + phases A B) % 4))) M) both),
         q′ .number ∙ P .factor .number ∙ sym clashes-in,
       )
 
@@ -135,7 +137,7 @@ module _ (n a b : ℕ) (M : Mem) (e : fault (outTests n (count M) M) ≡ 0) (ha 
       let out : (f : Pauli → Bool) (us : List ℕ) → length us ≡ count M * w → Outside s (s + w) us (putMid s w us (pack f w (mul A B)))
       = λ f us h. subst (λ k. Outside s (s + w) us (putMid s k us (pack f w (mul A B)))) cancel
       (outside-put s (s + w) us (pack f w (mul A B)) (omega arith) (omega (arith, end)) (length-pack f w (mul A B) ∙ sym cancel)) in
-      let N = mem (putRow w a (pack hasX w (mul A B)) (M .xs)) (putRow w a (pack hasZ w (mul A B)) (M .zs)) (set (M .es) a ((getD (M .es) a 0 + getD (M .es) b 0 + phases A B) % 4)) in
+      let N = memOf (count M) (putRow w a (pack hasX w (mul A B)) (M .xs)) (putRow w a (pack hasZ w (mul A B)) (M .zs)) (withExponent (M .es) a ((exponentAt (M .es) a + exponentAt (M .es) b + phases A B) % 4)) in
       subst (λ t. RowsMultiplied w a b M (cond t N M) (clashes A B % 65536)) (sym both)
       (record {
         factor = record { phase = record { 0 = phases A B % 4 }; clashes = clashes A B % 65536 };
@@ -145,7 +147,8 @@ module _ (n a b : ℕ) (M : Mem) (e : fault (outTests n (count M) M) ≡ 0) (ha 
               x-rest = out hasX (M .xs) (sh .x-long);
               z-rest = out hasZ (M .zs) (sh .z-long);
             };
-        bytes = ap (set (M .es) a) (omega arith);
+        many = refl;
+        exponents = ap (withExponent (M .es) a) (omega arith);
         number = refl;
       })
 
@@ -154,4 +157,4 @@ pub shape-is : {n : ℕ} {M : Mem} → Sound n M → fault (outTests n (count M)
 unfolding faultFrom
 shape-is {n} {M} s =
     let w = wordsOf n in
-    simp (le-ltb maxQubits n (s .few-qubits), le-ltb maxRows (count M) (s .few-rows), eq-eqb (count M) (count M) refl, eq-eqb (length (M .xs)) (count M * w) (s .valid .x-long), eq-eqb (length (M .zs)) (count M * w) (s .valid .z-long))
+    simp (le-ltb maxQubits n (s .few-qubits), le-ltb maxRows (count M) (s .few-rows), eq-eqb (count M) (count M) refl, eq-eqb (length (M .xs)) (count M * w) (s .valid .x-long), eq-eqb (length (M .zs)) (count M * w) (s .valid .z-long), eq-eqb (length (M .es)) (phaseUnits (count M)) (laid-long (count M) (s .valid .exponents)))

@@ -63,7 +63,7 @@ module _ (n a b : ℕ) {M M′ : Mem} {d : ℕ} (c : Multiplies n a b M M′ (cl
   now k h =
       let wide : n ≤ wordsOf n * 64 = omega arith in
       ap (λ N. rowsOf n N k) (c .rows ∙ ap (λ f. leftOr f M (lay n (count M) (mulAt (mulRow n) (rowsOf n M) a b))) no-fault)
-      ∙ read-lay n (wordsOf n) (count M) (mulAt (mulRow n) (rowsOf n M) a b) wide k h (proper .long k h)
+      ∙ read-lay n (wordsOf n) (count M) (mulAt (mulRow n) (rowsOf n M) a b) wide k h (proper .long k h) (proper .small k h)
 
   -- row a holds the product, phases and all
   pub imul-row : rowsOf n M′ a ≡ mulRow n (rowsOf n M a) (rowsOf n M b)

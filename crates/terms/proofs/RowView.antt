@@ -8,8 +8,8 @@ use native.Mathlib.Decide.{decLt, ℕ-discrete}
 use native.Mathlib.Omega.{arith}
 use borrow.Author.Tests.{eqb-true, eqb-false, lt-ltb, le-ltb}
 use lib.Dec.{eqb}
-use lib.ListN.{length, getD, take, drop, set, length-set, length-drop}
-use lib.Seq.{getD-take, getD-drop, getD-set-same, getD-set-other}
+use lib.ListN.{length, getD, take, drop, length-drop}
+use lib.Seq.{getD-take, getD-drop}
 use Rattle.pauli.specs.Pauli.{Pauli, _·_, mul, phases, ofBits, hasX, hasZ}
 use Rattle.pauli.specs.declared.PauliMatrix.the-variants.{I}
 use Rattle.pauli.specs.Row.{Row, padMul, mulRow, bitOf, bitRow}
@@ -17,11 +17,12 @@ use Rattle.pauli.proofs.Lists.{length-each}
 use Rattle.pauli.proofs.RowLaws.{row-eq, x-bit, z-bit, hasX-of, hasZ-of, pad-mul}
 use Rattle.encoding.specs.Limits.{wordsOf}
 use Rattle.encoding.specs.Words.{bitAt, unpack, qubits, pack}
-use Rattle.encoding.specs.Set.{row, Mem, mem, count, rowsIn, rowsOf, lay, Packed, Valid, Sound}
+use Rattle.encoding.specs.Set.{row, Mem, memOf, count, exponentAt, withExponent, rowsIn, rowsOf, lay, Packed, Valid, Sound}
 use Rattle.encoding.proofs.RowWords.{inWords, phase-is, product-is, clashes-fit}
 use Rattle.encoding.proofs.Reading.{qubits-pack}
 use Rattle.encoding.proofs.Qubits.{qubit-at}
 use Rattle.encoding.proofs.Memory.{mem-eq, x-row, z-row, row-count, laid}
+use Rattle.encoding.proofs.Exponents.{laid-long, laid-with, units-with, exponent-same, exponent-other}
 use Rattle.products.specs.Leaves.{Multiplied}
 use Rattle.products.specs.declared.Factor.{Factor}
 use Rattle.pauli.specs.Rows.{clashesOf}
@@ -141,24 +142,32 @@ module _ (n w : ℕ) {M : Mem} (v : Valid n w M) (a b : ℕ) (ha : a < count M) 
     packed-new = record { x-is = x-new ∙ ap (pack hasX w) (sym new); z-is = z-new ∙ ap (pack hasZ w) (sym new) }
 
     value : ℕ
-    value = (getD (M .es) a 0 + getD (M .es) b 0 + e .phase .0) % 4
+    value = (exponentAt (M .es) a + exponentAt (M .es) b + e .phase .0) % 4
 
-    exponent : value ≡ (getD (M .es) a 0 + getD (M .es) b 0 + phases (take n (qs a)) (take n (qs b))) % 4
+    exponent : value ≡ (exponentAt (M .es) a + exponentAt (M .es) b + phases (take n (qs a)) (take n (qs b))) % 4
     unfolding qs value rowsIn
     exponent = omega (arith, q .here .factor .exponent, phase-is n w v M a b ha)
 
+    low : value < 4
+    unfolding value
+    low = omega arith
+
+    written : exponentAt (withExponent (M .es) a value) a ≡ value
+    written = exponent-same (M .es) a value (laid-long (count M) (v .exponents)) ha low
+
     M′ : Mem
-    M′ = mem xs′ zs′ (set (M .es) a value)
+    M′ = memOf (count M) xs′ zs′ (withExponent (M .es) a value)
 
     valid-new : Valid n w M′
     unfolding M′ value
     valid-new =
         record {
           wide = v .wide;
-          x-long = q .x-rest .long ∙ v .x-long ∙ ap (λ (k : ℕ). k * w) (sym (length-set (M .es) a value));
-          z-long = q .z-rest .long ∙ v .z-long ∙ ap (λ (k : ℕ). k * w) (sym (length-set (M .es) a value));
-          packed = λ r h. go-packed r (subst (λ (k : ℕ). r < k) (length-set (M .es) a value) h) (ℕ-discrete r a);
+          x-long = q .x-rest .long ∙ v .x-long;
+          z-long = q .z-rest .long ∙ v .z-long;
+          packed = λ r h. go-packed r h (ℕ-discrete r a);
           small = λ r. go-small r (ℕ-discrete r a);
+          exponents = laid-with (M .es) a value (count M) (v .exponents);
         }
       where
         go-packed : (r : ℕ) → r < count M → Dec (r ≡ a) → Packed n w (row w r xs′) (row w r zs′)
@@ -167,21 +176,21 @@ module _ (n w : ℕ) {M : Mem} (v : Valid n w M) (a b : ℕ) (ha : a < count M) 
             subst (λ (s : List ℕ). Packed n w s (row w r zs′)) (sym (row-other w r a (q .x-rest) ne))
             (subst (λ (s : List ℕ). Packed n w (row w r (M .xs)) s) (sym (row-other w r a (q .z-rest) ne)) (v .packed r h))
 
-        go-small : (r : ℕ) → Dec (r ≡ a) → getD (set (M .es) a value) r 0 < 4
-        go-small r (yes t) = subst (λ (k : ℕ). getD (set (M .es) a value) k 0 < 4) (sym t) (subst (λ (k : ℕ). k < 4) (sym (getD-set-same (M .es) a value 0 ha)) (omega arith))
-        go-small r (no ne) = subst (λ (k : ℕ). k < 4) (sym (getD-set-other (M .es) a r value 0 ne)) (v .small r)
+        go-small : (r : ℕ) → Dec (r ≡ a) → exponentAt (withExponent (M .es) a value) r < 4
+        go-small r (yes t) = subst (λ (k : ℕ). exponentAt (withExponent (M .es) a value) k < 4) (sym t) (subst (λ (k : ℕ). k < 4) (sym written) low)
+        go-small r (no ne) = subst (λ (k : ℕ). k < 4) (sym (exponent-other (M .es) a value r ne)) (v .small r)
 
     rows-new : rowsIn n w M′ ≡ mulAt (mulRow n) (rowsIn n w M) a b
     unfolding mulAt mulRow rowsIn qs M′
     rows-new =
-        let es′ = set (M .es) a value in
-        fun-ext (λ k. cond-ind (λ (s : Row). _≡_ {A = Row} (record { ps = qubits n (row w k xs′) (row w k zs′); p = getD es′ k 0 }) s) (eqb k a)
-        (λ t. subst (λ (j : ℕ). _≡_ {A = Row} (record { ps = qubits n (row w j xs′) (row w j zs′); p = getD es′ j 0 })
-        (record { ps = padMul (qs a) (qs b); p = (getD (M .es) a 0 + getD (M .es) b 0 + phases (take n (qs a)) (take n (qs b))) % 4 })) (sym (eqb-true k a t))
-        (row-eq new (getD-set-same (M .es) a value 0 ha ∙ exponent)))
+        let es′ = withExponent (M .es) a value in
+        fun-ext (λ k. cond-ind (λ (s : Row). _≡_ {A = Row} (record { ps = qubits n (row w k xs′) (row w k zs′); p = exponentAt es′ k }) s) (eqb k a)
+        (λ t. subst (λ (j : ℕ). _≡_ {A = Row} (record { ps = qubits n (row w j xs′) (row w j zs′); p = exponentAt es′ j })
+        (record { ps = padMul (qs a) (qs b); p = (exponentAt (M .es) a + exponentAt (M .es) b + phases (take n (qs a)) (take n (qs b))) % 4 })) (sym (eqb-true k a t))
+        (row-eq new (written ∙ exponent)))
         (λ t.
         let ne = eqb-false k a t in
-        row-eq (ap₂ (qubits n) (row-other w k a (q .x-rest) ne) (row-other w k a (q .z-rest) ne)) (getD-set-other (M .es) a k value 0 ne)))
+        row-eq (ap₂ (qubits n) (row-other w k a (q .x-rest) ne) (row-other w k a (q .z-rest) ne)) (exponent-other (M .es) a value k ne)))
 
 -- what a product in place leaves of a row set
 pub record Held (n : ℕ) (σ : ℕ → Row) (M M′ : Mem) : Type 0 where
@@ -196,17 +205,18 @@ mul-view {n} {M} s a b ha hb =
     let v = s .valid in
     let q = mul-in-is n a b M (shape-is s) ha hb in
     let N = mulIn n a b M in
-    let e : M′ n w v a b ha hb (q .words) ≡ N = mem-eq refl refl (sym (q .bytes)) in
+    let e : M′ n w v a b ha hb (q .words) ≡ N = mem-eq (sym (q .many)) refl refl (sym (q .exponents)) in
     let valid : Valid n w N = subst (Valid n w) e (valid-new n w v a b ha hb (q .words)) in
     let rows : rowsOf n N ≡ mulAt (mulRow n) (rowsOf n M) a b = ap (rowsIn n w) (sym e) ∙ rows-new n w v a b ha hb (q .words) in
-    let many : count N ≡ count M = ap length (q .bytes) ∙ length-set (M .es) a _ in
+    let many : count N ≡ count M = q .many in
     record {
       keeps =
           record {
             sound = record { valid = valid; few-qubits = s .few-qubits; few-rows = omega (arith, many, s .few-rows) };
             x-len = valid .x-long ∙ ap (λ k. k * w) many ∙ sym (v .x-long);
             z-len = valid .z-long ∙ ap (λ k. k * w) many ∙ sym (v .z-long);
-            e-len = many;
+            e-len = ap length (q .exponents) ∙ units-with (M .es) a _;
+            many = many;
           };
       rows-are = rows;
       laid-out = laid n w valid rows ∙ ap (λ m. lay n m (mulAt (mulRow n) (rowsOf n M) a b)) many;

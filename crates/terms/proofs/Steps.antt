@@ -23,10 +23,10 @@ use Rattle.terms.proofs.RowView.{Held, mul-view}
 -- ---- memory
 
 pub keeps-none : {n : ℕ} {M : Mem} → Sound n M → Keeps n M M
-keeps-none v = record { sound = v; x-len = refl; z-len = refl; e-len = refl }
+keeps-none v = record { sound = v; x-len = refl; z-len = refl; e-len = refl; many = refl }
 
 pub keeps-then : {n : ℕ} {M M₁ M₂ : Mem} → Keeps n M M₁ → Keeps n M₁ M₂ → Keeps n M M₂
-keeps-then a b = record { sound = b .sound; x-len = b .x-len ∙ a .x-len; z-len = b .z-len ∙ a .z-len; e-len = b .e-len ∙ a .e-len }
+keeps-then a b = record { sound = b .sound; x-len = b .x-len ∙ a .x-len; z-len = b .z-len ∙ a .z-len; e-len = b .e-len ∙ a .e-len; many = b .many ∙ a .many }
 
 -- ---- pieces
 

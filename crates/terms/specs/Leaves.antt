@@ -9,7 +9,7 @@ use lib.ListN.{length, getD, take, drop, set}
 use Rattle.pauli.specs.Pauli.{hasX, hasZ, mul, phases, clashes}
 use Rattle.encoding.specs.Limits.{maxQubits, maxRows, maxWords, wordsOf}
 use Rattle.encoding.specs.Words.{bitAt, unpack, pack}
-use Rattle.encoding.specs.Set.{row, Mem, mem, count}
+use Rattle.encoding.specs.Set.{row, Mem, memOf, count, exponentAt, withExponent}
 use Rattle.encoding.specs.Refusals.{fault, outTests}
 use Rattle.products.specs.Leaves.{Multiplied}
 use Rattle.products.specs.declared.Factor.{Factor}
@@ -35,14 +35,15 @@ bothIn n M a b = eqb (fault (outTests n (count M) M)) 0 && (ltb a (count M) && l
 abbrev pub putRow : ℕ → ℕ → List ℕ → List ℕ → List ℕ
 putRow w r v xs = take (r * w) xs ++ (v ++ drop w (drop (r * w) xs))
 
--- Row a multiplied by row b: its words are those of the product, its phase byte p_a + p_b + phase(a,b) mod 4. Where not both are in, nothing is done.
+-- Row a multiplied by row b: its words are those of the product, its exponent p_a + p_b + phase(a,b) mod 4. Where not both are in, nothing is done.
 unfoldable pub mulIn : ℕ → ℕ → ℕ → Mem → Mem
 mulIn n a b M =
     let w = wordsOf n in
     let A = unpack (row w a (M .xs)) (row w a (M .zs)) in
     let B = unpack (row w b (M .xs)) (row w b (M .zs)) in
     cond (bothIn n M a b)
-    (mem (putRow w a (pack hasX w (mul A B)) (M .xs)) (putRow w a (pack hasZ w (mul A B)) (M .zs)) (set (M .es) a ((getD (M .es) a 0 + getD (M .es) b 0 + phases A B) % 4)))
+    (memOf (count M) (putRow w a (pack hasX w (mul A B)) (M .xs)) (putRow w a (pack hasZ w (mul A B)) (M .zs))
+    (withExponent (M .es) a ((exponentAt (M .es) a + exponentAt (M .es) b + phases A B) % 4)))
     M
 
 -- the number of qubits at which rows a and b hold differing non-identity Paulis, mod 2^16; 0 where not both are in
@@ -65,5 +66,6 @@ pub record InRows (w a b : ℕ) (M : Mem) : Type 0 where
 pub record RowsMultiplied (w a b : ℕ) (M M′ : Mem) (c : ℕ) : Type 0 where
   pub factor : Factor
   pub words : Multiplied w (a * w) (b * w) (M .xs) (M .zs) (M′ .xs) (M′ .zs) factor
-  pub bytes : M′ .es ≡ set (M .es) a ((getD (M .es) a 0 + getD (M .es) b 0 + factor .phase .0) % 4)
+  pub many : count M′ ≡ count M
+  pub exponents : M′ .es ≡ withExponent (M .es) a ((exponentAt (M .es) a + exponentAt (M .es) b + factor .phase .0) % 4)
   pub number : c ≡ factor .clashes

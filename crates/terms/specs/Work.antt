@@ -18,6 +18,7 @@ pub record Keeps (n : ℕ) (M₀ M : Mem) : Type 0 where
   pub x-len : length (M .xs) ≡ length (M₀ .xs)
   pub z-len : length (M .zs) ≡ length (M₀ .zs)
   pub e-len : length (M .es) ≡ length (M₀ .es)
+  pub many : count M ≡ count M₀
 
 -- the numbers of a list are below m
 abbrev pub Below : ℕ → List ℕ → Type 0

@@ -4,11 +4,12 @@ ghost use Prim.Native.Nat.{_+_, _/_, _%_, _<_, _≤_};
 ghost use lib.ListN.{drop};
 ghost use Rattle.encoding.specs.Limits.{maxRows, maxWords};
 ghost use Rattle.encoding.specs.Words.{bitAt};
-ghost use Rattle.encoding.specs.Set.{row};
+ghost use Rattle.encoding.specs.Set.{row, exponentAt, withExponent};
 ghost use Rattle.encoding.specs.Lent.{lent, before, after};
 ghost use Rattle.terms.specs.Leaves.{bitIn, firstPlace, mulIn, clashesIn, InRows, RowsMultiplied};
 use encoding::MAX_QUBITS;
 use encoding::MAX_ROWS;
+use pauli::ComplexSign;
 use pauli::RowNumber;
 
 // Bit q of row k of words that lie w to a row.
@@ -54,14 +55,23 @@ pub fn find(n: usize, x: &[u64], z: &[u64], listed: &[u16], t: usize, c: usize) 
     i
 }
 
-// Row a is multiplied by row b; a and b may be the same. The number of clashes is returned.
-fn mul_rows(w: usize, x: &mut [u64], z: &mut [u64], p: &mut [u8], a: usize, b: usize) -> u16
-    requires { ⌜ InRows w a b (lent x z p) ⌝ }
-    ensures { λ c. ⌜ RowsMultiplied w a b (before x z p) (after x z p) c ⌝ }
+// The exponents of row b and of the product are added to that of row a.
+fn add_exponent(p: &mut [u8], a: RowNumber, b: RowNumber, e: ComplexSign)
+    ensures { λ _. ⌜ now (p .exit) ≡ withExponent (now (p .entry)) (a .0)
+        ((exponentAt (now (p .entry)) (a .0) + exponentAt (now (p .entry)) (b .0) + e .0) % 4) ⌝ }
 {
-    let f = products::imul_op_op(x, z, a * w, b * w, w);
-    let e = f.phase;
-    p[a] = products::add_signs(p[a], p[b], e.0);
+    let l = encoding::get_exponent(p, a);
+    let r = encoding::get_exponent(p, b);
+    encoding::set_exponent(p, a, products::add_signs(l, r, e));
+}
+
+// Row a is multiplied by row b; a and b may be the same. The number of clashes is returned.
+fn mul_rows(w: usize, x: &mut [u64], z: &mut [u64], p: &mut [u8], a: RowNumber, b: RowNumber) -> u16
+    requires { ⌜ InRows w (a .0) (b .0) (lent x z p) ⌝ }
+    ensures { λ c. ⌜ RowsMultiplied w (a .0) (b .0) (before x z p) (after x z p) c ⌝ }
+{
+    let f = products::imul_op_op(x, z, a.0 * w, b.0 * w, w);
+    add_exponent(p, a, b, f.phase);
     f.clashes
 }
 
@@ -88,5 +98,5 @@ pub fn imul_unchecked(
     if m <= b.0 {
         return 0;
     }
-    mul_rows(encoding::words(n), x, z, p, a.0, b.0)
+    mul_rows(encoding::words(n), x, z, p, a, b)
 }

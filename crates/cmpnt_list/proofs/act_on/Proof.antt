@@ -6,7 +6,7 @@ use Rattle.cmpnt_list.proofs.act_on.Tie as tie
 
 returns : tie.Need-returns
 returns c =
-    let s = c .before .before .before .before .before .before .before .before .before .before .before in
+    let s = c .before .before .before .before .before .before .before .before .before .before in
     state-acted (s .args .n) (s .pre .0) (s .args .r) (s .pre .1 .0) (s .pre .1 .1) (c .before .before .before .before .before .before .row-span .ensures) (c .before .before .imul-op-state .ensures)
 
 pub act-on-spec : {M : Type 1} → statement M

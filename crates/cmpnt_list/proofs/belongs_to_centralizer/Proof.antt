@@ -4,9 +4,10 @@ use Prim.Native.Nat.{ℕ}
 use borrow.Author.Tests.{leb-false}
 use borrow.Author.Needs.{needs}
 use lib.ListN.{length}
-use Rattle.pauli.specs.Rows.{central}
-use Rattle.encoding.specs.Set.{mem, rowsOf, count}
+use Rattle.pauli.specs.Rows.{commute, central}
+use Rattle.encoding.specs.Set.{mem, rowsIn, rowsOf, count}
 use Rattle.encoding.proofs.Faults.{refusing, passing}
+use Rattle.encoding.proofs.Memory.{bare-sound}
 use Rattle.cmpnt_list.specs.Calls.{belongsToCentralizer, truthOr}
 use Rattle.cmpnt_list.specs.declared.Truth.the-variants as truth
 use Rattle.cmpnt_list.proofs.belongs_to_centralizer.Statement.{statement}
@@ -23,10 +24,10 @@ central-row-requires : tie.Need-central-row-requires
 central-row-requires c κs =
     let a = c .before .before .before .before .before .before .args in
     let k = c .before .row-fault .ensures .1 (c .if1 .left) in
-    (k .ready, leb-false (length (a .phases .now)) (a .row .0) (k .small))
+    (bare-sound (k .ready), leb-false (length (a .phases .now)) (a .row .0) (k .small))
 
 returns-2 : tie.Need-returns-2
-unfolding belongsToCentralizer
+unfolding belongsToCentralizer rowsIn central commute
 returns-2 c =
     let a = c .before .before .before .before .before .before .before .args in
     let M = mem (a .x .now) (a .z .now) (a .phases .now) in

@@ -5,63 +5,62 @@ use Prim.Native.Nat.{ℕ, _-_, _<_, _≤_}
 use native.Mathlib.Omega.{arith}
 use borrow.Author.Tests.{not-true, not-false}
 use borrow.Author.Needs.{needs}
-use lib.ListN.{length}
 use Rattle.pauli.specs.Rows.{commute, everyBelow, central}
 use Rattle.pauli.proofs.Every.{every-none, every-more, every-not}
-use Rattle.encoding.specs.Set.{mem, rowsOf}
+use Rattle.encoding.specs.Set.{bare, rowsOf}
 use Rattle.cmpnt_list.proofs.central_row.Statement.{statement}
 use Rattle.cmpnt_list.proofs.central_row.Tie as tie
 
 abbrev Inv-loop : tie.InvT-loop
-Inv-loop n x z phases r m k₀ k = (m ≡ length phases) × (k ≤ m) × (everyBelow k (λ k. commute n (rowsOf n (mem x z phases) r) (rowsOf n (mem x z phases) k)) ≡ true)
+Inv-loop n m x z r k₀ k = (k ≤ m) × (everyBelow k (λ k. commute n (rowsOf n (bare m x z) r) (rowsOf n (bare m x z) k)) ≡ true)
 
 abbrev μ-loop : tie.MeasureT-loop
-μ-loop n x z phases r m k₀ k = m - k
+μ-loop n m x z r k₀ k = m - k
 
 loop-holds : tie.Need-loop-holds Inv-loop μ-loop
 loop-holds c =
-    let s = c .before .before .before in
+    let s = c .before .before in
     let a = s .args in
-    let M = mem (a .x .now) (a .z .now) (a .phases .now) in
+    let M = bare (a .m) (a .x .now) (a .z .now) in
     let f : ℕ → Bool = λ k. commute (a .n) (rowsOf (a .n) M (a .r)) (rowsOf (a .n) M k) in
-    (refl, omega arith, every-none f)
+    (omega arith, every-none f)
 
 commute-rows-requires : tie.Need-commute-rows-requires Inv-loop μ-loop
 commute-rows-requires c κs =
-    let s = c .before .before .before .before .before in
-    let h : c .before .loop .k < length (s .args .phases .now) = omega arith in
+    let s = c .before .before .before .before in
+    let h : c .before .loop .k < s .args .m = omega arith in
     (s .pre .0, (s .pre .1, h))
 
 returns : tie.Need-returns Inv-loop μ-loop
 unfolding central
 returns c =
-    let s = c .before .before .before .before .before .before .before in
+    let s = c .before .before .before .before .before .before in
     let a = s .args in
-    let M = mem (a .x .now) (a .z .now) (a .phases .now) in
+    let M = bare (a .m) (a .x .now) (a .z .now) in
     let f : ℕ → Bool = λ k. commute (a .n) (rowsOf (a .n) M (a .r)) (rowsOf (a .n) M k) in
     let w = c .before .before .before in
-    let h : w .loop .k < length (a .phases .now) = omega arith in
-    sym (every-not f (length (a .phases .now)) (w .loop .k) h (sym (c .before .commute-rows .ensures) ∙ not-true _ (c .if1 .taken)))
+    let h : w .loop .k < a .m = omega arith in
+    sym (every-not f (a .m) (w .loop .k) h (sym (c .before .commute-rows .ensures) ∙ not-true _ (c .if1 .taken)))
 
 loop-again : tie.Need-loop-again Inv-loop μ-loop
 loop-again c =
-    let s = c .before .before .before .before .before .before .before in
+    let s = c .before .before .before .before .before .before in
     let a = s .args in
-    let M = mem (a .x .now) (a .z .now) (a .phases .now) in
+    let M = bare (a .m) (a .x .now) (a .z .now) in
     let f : ℕ → Bool = λ k. commute (a .n) (rowsOf (a .n) M (a .r)) (rowsOf (a .n) M k) in
     let w = c .before .before .before in
-    (w .loop .inv .0, omega arith, every-more f (w .loop .k) (w .loop .inv .2) (sym (c .before .commute-rows .ensures) ∙ not-false _ (c .if1 .left)))
+    (omega arith, every-more f (w .loop .k) (w .loop .inv .1) (sym (c .before .commute-rows .ensures) ∙ not-false _ (c .if1 .left)))
 
 returns-2 : tie.Need-returns-2 Inv-loop μ-loop
 unfolding central
 returns-2 c =
-    let s = c .before .before .before .before .before in
+    let s = c .before .before .before .before in
     let a = s .args in
-    let M = mem (a .x .now) (a .z .now) (a .phases .now) in
+    let M = bare (a .m) (a .x .now) (a .z .now) in
     let f : ℕ → Bool = λ k. commute (a .n) (rowsOf (a .n) M (a .r)) (rowsOf (a .n) M k) in
     let w = c .before in
-    let e : w .loop .k ≡ length (a .phases .now) = omega arith in
-    sym (subst (λ (k : ℕ). everyBelow k f ≡ true) e (w .loop .inv .2))
+    let e : w .loop .k ≡ a .m = omega arith in
+    sym (subst (λ (k : ℕ). everyBelow k f ≡ true) e (w .loop .inv .1))
 
 pub central-row-spec : {M : Type 1} → statement M
 central-row-spec =

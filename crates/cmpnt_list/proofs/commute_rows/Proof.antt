@@ -6,7 +6,7 @@ use borrow.Author.Needs.{needs}
 use lib.Dec.{eqb}
 use Rattle.pauli.specs.Pauli.{Pauli, phases, clashes}
 use Rattle.encoding.specs.Limits.{wordsOf}
-use Rattle.encoding.specs.Set.{mem}
+use Rattle.encoding.specs.Set.{bare}
 use Rattle.encoding.proofs.RowWords.{commute-is}
 use Rattle.cmpnt_list.proofs.Views.{words-at}
 use Rattle.cmpnt_list.proofs.commute_rows.Statement.{statement}
@@ -14,9 +14,9 @@ use Rattle.cmpnt_list.proofs.commute_rows.Tie as tie
 
 returns : tie.Need-returns
 returns c =
-    let s = c .before .before .before .before .before .before .before .before .before .before in
+    let s = c .before .before .before .before .before .before .before .before .before in
     let a = s .args in
-    let M = mem (a .x .now) (a .z .now) (a .phases .now) in
+    let M = bare (a .m) (a .x .now) (a .z .now) in
     c .commutes .ensures
     ∙ ap₂ (λ (l r : List Pauli). eqb (clashes l r % 2) 0) (words-at (c .before .before .before .before .before .before .row-span .ensures) M) (words-at (c .before .before .before .before .before .row-span2 .ensures) M)
     ∙ commute-is (a .n) (wordsOf (a .n)) (s .pre .0 .valid) M (a .a) (a .b) (s .pre .1 .0)

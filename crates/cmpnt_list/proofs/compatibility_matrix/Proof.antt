@@ -2,10 +2,12 @@
 use mathlib.Core.Path.{refl, _∙_}
 use Prim.Native.Nat.{ℕ}
 use borrow.Author.Needs.{needs}
+use Rattle.pauli.specs.Rows.{commute}
 use Rattle.encoding.specs.declared.Answer.the-variants.{Refused}
 use Rattle.encoding.specs.Refusals.{doneOr, leftOr}
-use Rattle.encoding.specs.Set.{mem, count}
+use Rattle.encoding.specs.Set.{mem, rowsIn, count}
 use Rattle.encoding.proofs.Faults.{refusing, passing}
+use Rattle.encoding.proofs.Memory.{bare-sound}
 use Rattle.cmpnt_list.specs.Calls.{laidMatrix, commuting}
 use Rattle.cmpnt_list.proofs.compatibility_matrix.Statement.{statement}
 use Rattle.cmpnt_list.proofs.compatibility_matrix.Tie as tie
@@ -23,9 +25,10 @@ returns c =
 fill-matrix-requires : tie.Need-fill-matrix-requires
 fill-matrix-requires c κs =
     let k = c .before .before .matrix-fault .ensures .1 (c .before .if1 .left) in
-    (k .ready, k .fits)
+    (bare-sound (k .ready), k .fits)
 
 returns-2 : tie.Need-returns-2
+unfolding rowsIn commute
 returns-2 c =
     let s = c .before .before .before .before .before .before .before .before .before .before in
     let a = s .args in

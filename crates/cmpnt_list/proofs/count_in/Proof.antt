@@ -8,13 +8,13 @@ use Rattle.cmpnt_list.proofs.count_in.Tie as tie
 
 from-masks-requires : tie.Need-from-masks-requires
 from-masks-requires c κs =
-    let s = c .before .before .before .before .before .before .before in
+    let s = c .before .before .before .before .before .before in
     let a = s .args in
     (s .pre .0 .few-qubits, counted-row (a .n) (wordsOf (a .n)) (s .pre .0 .valid) (a .r) (s .pre .1) (c .before .before .before .row-span .ensures) (a .pauli) (c .count-row .ensures) .1)
 
 returns : tie.Need-returns
 returns c =
-    let s = c .before .before .before .before .before .before .before .before in
+    let s = c .before .before .before .before .before .before .before in
     let a = s .args in
     c .from-masks .ensures ∙ counted-row (a .n) (wordsOf (a .n)) (s .pre .0 .valid) (a .r) (s .pre .1) (c .before .before .before .before .row-span .ensures) (a .pauli) (c .before .count-row .ensures) .0
 

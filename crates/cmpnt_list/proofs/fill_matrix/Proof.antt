@@ -2,9 +2,8 @@
 use borrow.Author.Needs.{needs}
 use mathlib.Core.Path.{subst}
 use Prim.Native.Nat.{ℕ}
-use lib.ListN.{length}
 use Rattle.encoding.specs.Limits.{wordsOf}
-use Rattle.encoding.specs.Set.{mem}
+use Rattle.encoding.specs.Set.{bare}
 use Rattle.matrix.specs.Matrix.{Filled}
 use Rattle.cmpnt_list.proofs.Filling.{filled}
 use Rattle.cmpnt_list.proofs.fill_matrix.Statement.{statement}
@@ -12,11 +11,11 @@ use Rattle.cmpnt_list.proofs.fill_matrix.Tie as tie
 
 returns : tie.Need-returns
 returns c =
-    let s = c .before .before .before .before .before .before .before .before .before in
+    let s = c .before .before .before .before .before .before .before .before in
     let a = s .args in
-    let m = length (a .phases .now) in
+    let m = a .m in
     let f = c .before .before .fill in
-    filled (a .n) {M = mem (a .x .now) (a .z .now) (a .phases .now)} (s .pre .0) (s .pre .1)
+    filled (a .n) {M = bare (a .m) (a .x .now) (a .z .now)} (s .pre .0) (s .pre .1)
     (subst (λ (w : ℕ). Filled w m (wordsOf m) (a .x .now) (a .z .now) (a .out .now) (f .last .1 .1 .1 .1 .0)) (c .before .before .before .before .words .ensures) (f .ensures))
     (f .kept .1 .1 .1 .1 .0)
     (c .slice-known2 .given)

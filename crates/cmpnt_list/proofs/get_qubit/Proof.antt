@@ -4,8 +4,9 @@ use Prim.Native.Nat.{ℕ}
 use borrow.Author.Needs.{needs}
 use lib.ListN.{length, getD}
 use Rattle.pauli.specs.declared.PauliMatrix.the-variants.{I}
-use Rattle.encoding.specs.Set.{mem, rowsOf}
+use Rattle.encoding.specs.Set.{mem, rowsIn, rowsOf}
 use Rattle.encoding.proofs.Faults.{refusing, passing}
+use Rattle.encoding.proofs.Memory.{bare-sound}
 use Rattle.cmpnt_list.specs.declared.Got.the-variants as got
 use Rattle.cmpnt_list.specs.Calls.{getQubit, gotOr}
 use Rattle.cmpnt_list.proofs.Tests.{both-small}
@@ -23,10 +24,10 @@ read-qubit-requires : tie.Need-read-qubit-requires
 read-qubit-requires c κs =
     let a = c .before .before .before .before .before .before .before .args in
     let k = c .before .row-fault .ensures .1 (c .if1 .left) in
-    (k .ready, both-small (length (a .phases .now)) (a .row .0) (a .n) (a .qubit .0) (k .small))
+    (bare-sound (k .ready), both-small (length (a .phases .now)) (a .row .0) (a .n) (a .qubit .0) (k .small))
 
 returns-2 : tie.Need-returns-2
-unfolding getQubit
+unfolding getQubit rowsIn
 returns-2 c =
     let a = c .before .before .before .before .before .before .before .before .args in
     let M = mem (a .x .now) (a .z .now) (a .phases .now) in

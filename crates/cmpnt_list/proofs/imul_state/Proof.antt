@@ -6,8 +6,9 @@ use borrow.Author.Needs.{needs}
 use lib.ListN.{length}
 use Rattle.pauli.specs.Rows.{actOn, actPhaseOn}
 use Rattle.encoding.proofs.Faults.{least-none, refusing, passing, both-parts}
+use Rattle.encoding.proofs.Memory.{bare-sound}
 use Rattle.encoding.specs.Refusals.{leftOr, joined, setTests, numberTests, stateTests, tooLarge}
-use Rattle.encoding.specs.Set.{mem, rowsOf, count, stateOf, layState}
+use Rattle.encoding.specs.Set.{mem, rowsIn, rowsOf, count, stateOf, layState}
 use Rattle.cmpnt_list.specs.Calls.{phaseOr}
 use Rattle.cmpnt_list.specs.declared.Phase.the-variants as phase
 use Rattle.cmpnt_list.proofs.imul_state.Statement.{statement}
@@ -35,9 +36,10 @@ act-on-requires c κs =
     let t = c .before .before .before .state-fault in
     let p = least-none (f .result) (t .result) (sym (c .before .before .smaller .ensures) ∙ c .before .if1 .left) in
     let k = f .ensures .1 (p .0) in
-    (k .ready, (leb-false (length (a .phases .now)) (a .row .0) (k .small), sym (t .ensures) ∙ p .1))
+    (bare-sound (k .ready), (leb-false (length (a .phases .now)) (a .row .0) (k .small), sym (t .ensures) ∙ p .1))
 
 returns-2 : tie.Need-returns-2
+unfolding rowsIn
 returns-2 c =
     let s = c .before .before .before .before .before .before .before .before .before .before .before .before .before .before in
     let a = s .args in

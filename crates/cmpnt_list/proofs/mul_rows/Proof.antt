@@ -1,5 +1,5 @@
 -- `cmpnt_list::mul_rows` meets its contract. Assumes nothing.
-use mathlib.Core.Path.{subst, _≡_, sym, ap, _∙_}
+use mathlib.Core.Path.{subst, _≡_, refl, sym, ap, _∙_}
 use Prim.Native.Nat.{ℕ, _*_, _-_, _<_, _≤_}
 use native.Mathlib.Omega.{arith}
 use borrow.Author.Needs.{needs}
@@ -43,23 +43,13 @@ mul-part-requires c κs =
     subst (λ (k : ℕ). c .before .before .row-span .result .1 ≤ k) (ap (λ (k : ℕ). k * wordsOf (s .args .n)) (w .loop .inv .2) ∙ sym (s .pre .0 .left .valid .x-long)) (at .inside) in
     ((le, inside), all-long (s .args .n) (s .pre .0) (s .pre .1 .same) (w .loop .inv .3))
 
-left-byte : tie.Need-shared-slice-read-p Inv-loop μ-loop
-left-byte c = let w = c .before .before .before .before .before .before .before .before .before .before .before in omega (arith, w .loop .inv .2)
-
-right-byte : tie.Need-shared-slice-read-q Inv-loop μ-loop
-right-byte c =
-    let i = c .before .before .before .before .before .before .before .before .before .before .before in
-    let w = i .before in
-    let s = w .before .before .before .before .before .before .before .before .before .before .before in
-    subst (λ (k : ℕ). w .loop .r < k) (w .loop .inv .2 ∙ sym (s .pre .1 .same)) (i .loop-test .taken)
-
 loop-again : tie.Need-loop-again Inv-loop μ-loop
 loop-again c =
-    let p = c .before .before .before .before .before .before .before .before in
+    let p = c .before .before .before .before .before .before .before .before .before in
     let w = p .before .before .before .before .before in
     let s = w .before .before .before .before .before .before .before .before .before .before .before in
     let h : w .loop .r < length (s .args .lp .now) = omega arith in
-    let more = holds-more (s .args .n) (s .pre .0) h (subst (λ (k : ℕ). w .loop .r < k) (sym (s .pre .1 .same)) h) (c .add-signs .ensures) (p .before .before .before .row-span .ensures) (w .loop .inv .3) (w .loop .inv .4) (p .mul-part .ensures) in
+    let more = holds-more (s .args .n) (s .pre .0) h (subst (λ (k : ℕ). w .loop .r < k) (sym (s .pre .1 .same)) h) refl (c .before .before .mul-exponents .ensures) (p .before .before .before .row-span .ensures) (w .loop .inv .3) (w .loop .inv .4) (p .mul-part .ensures) in
     (omega arith, w .loop .inv .1, w .loop .inv .2, more .0, more .1)
 
 returns : tie.Need-returns Inv-loop μ-loop
@@ -82,10 +72,7 @@ mul-rows-spec =
     loop-holds
     row-span-requires
     mul-part-requires
-    left-byte
-    right-byte
     (λ c κs. search needs)
-    (λ c. search needs)
     (λ c. search needs)
     (λ c. search needs)
     (λ c. search needs)

@@ -4,8 +4,9 @@ use Prim.Native.Nat.{ℕ}
 use borrow.Author.Needs.{needs}
 use lib.ListN.{length}
 use Rattle.pauli.specs.Rows.{phaseOf}
-use Rattle.encoding.specs.Set.{mem, rowsOf}
+use Rattle.encoding.specs.Set.{mem, rowsIn, rowsOf}
 use Rattle.encoding.proofs.Faults.{refusing, passing}
+use Rattle.encoding.proofs.Memory.{bare-sound}
 use Rattle.cmpnt_list.specs.Calls.{phaseOfMul, phaseOr}
 use Rattle.cmpnt_list.specs.declared.Phase.the-variants as phase
 use Rattle.cmpnt_list.proofs.Tests.{both-small}
@@ -24,10 +25,10 @@ phase-rows-requires c κs =
     let a = c .before .before .before .before .before .before .before .args in
     let m = length (a .phases .now) in
     let k = c .before .row-fault .ensures .1 (c .if1 .left) in
-    (k .ready, both-small m (a .a .0) m (a .b .0) (k .small))
+    (bare-sound (k .ready), both-small m (a .a .0) m (a .b .0) (k .small))
 
 returns-2 : tie.Need-returns-2
-unfolding phaseOfMul
+unfolding phaseOfMul rowsIn
 returns-2 c =
     let a = c .before .before .before .before .before .before .before .before .args in
     let M = mem (a .x .now) (a .z .now) (a .phases .now) in

@@ -5,7 +5,7 @@ use Prim.Native.Nat.{_%_}
 use borrow.Author.Needs.{needs}
 use Rattle.pauli.specs.Pauli.{Pauli, phases}
 use Rattle.encoding.specs.Limits.{wordsOf}
-use Rattle.encoding.specs.Set.{mem}
+use Rattle.encoding.specs.Set.{bare}
 use Rattle.encoding.proofs.RowWords.{phase-is}
 use Rattle.cmpnt_list.proofs.Views.{words-at}
 use Rattle.cmpnt_list.proofs.phase_rows.Statement.{statement}
@@ -14,9 +14,9 @@ use Rattle.cmpnt_list.proofs.phase_rows.Tie as tie
 returns : tie.Need-returns
 returns c =
     let k = c .before in
-    let s = k .before .before .before .before .before .before .before .before .before .before in
+    let s = k .before .before .before .before .before .before .before .before .before in
     let a = s .args in
-    let M = mem (a .x .now) (a .z .now) (a .phases .now) in
+    let M = bare (a .m) (a .x .now) (a .z .now) in
     k .mul-op-op-phase .ensures .exponent
     ∙ ap₂ (λ (l r : List Pauli). phases l r % 4) (words-at (k .before .before .before .before .before .before .row-span .ensures) M) (words-at (k .before .before .before .before .before .row-span2 .ensures) M)
     ∙ phase-is (a .n) (wordsOf (a .n)) (s .pre .0 .valid) M (a .a) (a .b) (s .pre .1 .0)

@@ -7,7 +7,10 @@ use Rattle.pauli.specs.Rows.{withQubit}
 use Rattle.encoding.specs.declared.Answer.the-variants.{Refused}
 use Rattle.encoding.specs.Refusals.{doneOr, leftOr}
 use Rattle.encoding.specs.Set.{mem, rowsOf, count, lay}
+use Rattle.encoding.specs.Limits.{wordsOf}
 use Rattle.encoding.proofs.Faults.{refusing, passing}
+use Rattle.encoding.proofs.Memory.{bare-sound}
+use Rattle.cmpnt_list.proofs.OneQubit.{with-exponents}
 use Rattle.cmpnt_list.proofs.Tests.{both-small}
 use Rattle.cmpnt_list.proofs.set_qubit.Statement.{statement}
 use Rattle.cmpnt_list.proofs.set_qubit.Tie as tie
@@ -24,7 +27,7 @@ write-qubit-requires : tie.Need-write-qubit-requires
 write-qubit-requires c κs =
     let a = c .before .before .before .before .before .before .before .before .before .before .before .args in
     let k = c .before .before .before .row-fault .ensures .1 (c .before .before .if1 .left) in
-    (k .ready, both-small (length (a .phases .now)) (a .row .0) (a .n) (a .qubit .0) (k .small))
+    (bare-sound (k .ready), both-small (length (a .phases .now)) (a .row .0) (a .n) (a .qubit .0) (k .small))
 
 returns-2 : tie.Need-returns-2
 returns-2 c =
@@ -33,7 +36,11 @@ returns-2 c =
     let new = lay (a .n) (count M) (withQubit (rowsOf (a .n) M) (a .row .0) (a .qubit .0) (a .pauli)) in
     let e = c .before .before .before .before .before .before .before .before .row-fault .ensures .0 in
     let z = c .before .before .before .before .before .before .before .if1 .left in
-    record { answer = passing doneOr e z; rows = c .before .before .before .before .write-qubit .ensures ∙ passing (λ (k : ℕ). leftOr k M new) e z }
+    let k = c .before .before .before .before .before .before .before .before .row-fault .ensures .1 z in
+    record {
+      answer = passing doneOr e z;
+      rows = with-exponents (a .n) (wordsOf (a .n)) (k .ready .valid) (a .row .0) (a .qubit .0) (a .pauli) (c .before .before .before .before .write-qubit .ensures) ∙ passing (λ (k : ℕ). leftOr k M new) e z;
+    }
 
 pub set-qubit-spec : {M : Type 1} → statement M
 set-qubit-spec =

@@ -7,7 +7,7 @@ use Rattle.cmpnt_list.proofs.write_qubit.Tie as tie
 
 returns : tie.Need-returns
 returns c =
-    let s = c .before .before .before .before .before .before .before .before .before .before .before in
+    let s = c .before .before .before .before .before .before .before .before .before .before in
     let a = s .args in
     let q = c .before .before .before .before .set-qubit in
     qubit-written (a .n) (wordsOf (a .n)) (s .pre .0 .valid) (a .r .0) (a .q .0) (a .pauli) (s .pre .1 .0) (s .pre .1 .1) (c .before .before .before .before .before .before .before .row-span .ensures)

@@ -29,7 +29,7 @@ returns-3 c =
     let w = b .before in
     let e2 = w .before in
     let a = e2 .before .before .before .before .before .args in
-    out-3 (a .n) (a .m) (mem (a .x .now) (a .z .now) (a .p .now)) (w .words .result) (b .bad-lengths .result) (c .pick .result) (e2 .before .if1 .left) (e2 .if2 .left) (w .words .ensures) (b .bad-lengths .ensures) (c .pick .ensures)
+    out-3 (a .n) (a .m) (mem (a .x .now) (a .z .now) (a .p .now)) (w .words .result) (b .bad-lengths .result) (c .pick .result) (e2 .before .if1 .left) (e2 .if2 .left) refl (w .words .ensures) (b .bad-lengths .ensures) (c .pick .ensures)
 
 pub out-fault-spec : {M : Type 1} → statement M
 out-fault-spec =

@@ -57,7 +57,7 @@ returns-4 c =
     let s = k3 .before .before .before in
     let a = s .args in
     told (a .n) (mem (a .x .now) (a .z .now) (a .p .now)) (k3 .before .before .shared-slice-known .given) (k3 .before .shared-slice-known2 .given)
-    (go-on (a .n) (mem (a .x .now) (a .z .now) (a .p .now)) (w .words .result) (e2 .before .if1 .left) (e2 .if2 .left) (w .words .ensures) (sym (b .bad-lengths .ensures) ∙ e3 .if3 .left)
+    (go-on (a .n) (mem (a .x .now) (a .z .now) (a .p .now)) (w .words .result) (e2 .before .if1 .left) (e2 .if2 .left) (w .words .ensures) (sym (b .bad-lengths .ensures) ∙ e3 .if3 .left) refl
     _ _ _ _ (f4 .bad-bits .ensures) (f5 .bad-phases .ensures) (p5 .pick .ensures) (c .pick2 .ensures))
 
 pub set-fault-spec : {M : Type 1} → statement M

@@ -1,4 +1,5 @@
-use mathlib.Core.Path.{subst, _≡_, sym}
+use mathlib.Core.Path.{subst, _≡_, sym, ap₂, _∙_}
+use lib.Dec.{eqb}
 use Prim.Native.Nat.{_+_, _*_, _≤_}
 use borrow.Author.Tests.{not-true, not-false}
 use borrow.Author.Needs.{needs}
@@ -47,15 +48,17 @@ returns-2 c =
 
 returns-3 : tie.Need-returns-3
 returns-3 c =
-    let s = c .before .before .before .before .before .before .before .before .before .before .before .before .before in
+    let w = c .before .before in
+    let l = w .before in
+    let s = w .before .before .before .before .before .before .before .before .before .before .before .before .before in
     let a = s .args in
     let p = s .pre in
-    let e = c .before .before .before .before .before .before .words .ensures in
-    let x = c .before .before .before .before .before .same-words in
-    let z = c .before .before .before .same-words2 in
-    let ex = subst (λ w. row w (a .k) (a .x .now) ≡ row w (a .k) (a .cx .now)) e (x .ensures .0 (not-false (x .result) (c .before .before .before .before .if1 .left))) in
-    let ez = subst (λ w. row w (a .k) (a .z .now) ≡ row w (a .k) (a .cz .now)) e (z .ensures .0 (not-false (z .result) (c .before .before .if2 .left))) in
-    row-same (a .n) (wordsOf (a .n)) (p .0) (p .1 .0) (p .1 .1 .0) (a .k) (p .1 .1 .1) ex ez
+    let e = w .before .before .before .before .before .before .words .ensures in
+    let x = w .before .before .before .before .before .same-words in
+    let z = w .before .before .before .same-words2 in
+    let ex = subst (λ w. row w (a .k) (a .x .now) ≡ row w (a .k) (a .cx .now)) e (x .ensures .0 (not-false (x .result) (w .before .before .before .before .if1 .left))) in
+    let ez = subst (λ w. row w (a .k) (a .z .now) ≡ row w (a .k) (a .cz .now)) e (z .ensures .0 (not-false (z .result) (w .before .before .if2 .left))) in
+    ap₂ eqb (l .get-exponent .ensures) (w .get-exponent2 .ensures) ∙ row-same (a .n) (wordsOf (a .n)) (p .0) (p .1 .0) (p .1 .1 .0) (a .k) (p .1 .1 .1) ex ez
 
 pub same-row-spec : {M : Type 1} → statement M
 same-row-spec =
@@ -66,6 +69,6 @@ same-row-spec =
     returns
     same-words-requires-2
     returns-2
-    (λ c. search needs)
-    (λ c. search needs)
+    (λ c κs. search needs)
+    (λ c κs. search needs)
     returns-3)

@@ -6,13 +6,17 @@ use Rattle.terms.proofs.rows.mul_rows.Statement.{statement}
 use Rattle.terms.proofs.rows.mul_rows.Tie as tie
 
 mul-imul-op-op : tie.Need-mul-imul-op-op
-mul-imul-op-op c = let s = c .before .before .before .before .before in omega (arith, small-start (s .args .a) (s .args .w) (omega (arith, s .pre .a-in, s .pre .few)) (s .pre .narrow))
+mul-imul-op-op c = let s = c .before .before .before .before .before .before in omega (arith, small-start (s .args .a .0) (s .args .w) (omega (arith, s .pre .a-in, s .pre .few)) (s .pre .narrow))
 
 mul-imul-op-op-2 : tie.Need-mul-imul-op-op-2
-mul-imul-op-op-2 c = let s = c .before .before .before .before .before in omega (arith, small-start (s .args .b) (s .args .w) (omega (arith, s .pre .b-in, s .pre .few)) (s .pre .narrow))
+mul-imul-op-op-2 c = let s = c .before .before .before .before .before .before .before in omega (arith, small-start (s .args .b .0) (s .args .w) (omega (arith, s .pre .b-in, s .pre .few)) (s .pre .narrow))
 
 returns : tie.Need-returns
-returns c = let k = c .before .before .before .before .before .before .before .before in rows-multiplied (k .before .before .before .before .before .before .pre) (k .imul-op-op .ensures) (c .add-signs .ensures)
+returns c =
+    let e = c .before .before in
+    let k = e .before .before .before .before .before .before in
+    let s = k .before .before .before .before .before .before .before .before in
+    rows-multiplied (s .pre) (k .imul-op-op .ensures) (e .add-exponent .ensures) _ (e .add-exponent .kept .0)
 
 pub mul-rows-spec : {M : Type 1} → statement M
 mul-rows-spec =
@@ -21,10 +25,7 @@ mul-rows-spec =
     mul-imul-op-op
     mul-imul-op-op-2
     (λ c κs. search needs)
-    (λ c. search needs)
-    (λ c. search needs)
     (λ c κs. search needs)
-    (λ c. search needs)
     (λ c. search needs)
     (λ c. search needs)
     (λ c. search needs)
