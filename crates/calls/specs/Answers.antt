@@ -25,10 +25,10 @@ use Rattle.terms.specs.declared.Canonicalized.{Canonicalized}
 use Rattle.terms.specs.declared.Canonicalized.the-variants as reduced
 use Rattle.replay.specs.declared.Verdict.{Verdict}
 use Rattle.replay.specs.declared.Verdict.the-variants as verdict
-use Rattle.mat_elem_whole.specs.declared.Element as wholeElement
-use Rattle.mat_elem_whole.specs.declared.Element.the-variants as whole
-use Rattle.mat_elem_float.specs.declared.Element as floatElement
-use Rattle.mat_elem_float.specs.declared.Element.the-variants as float
+use Rattle.mat_elem.specs.declared.whole.Element as wholeElement
+use Rattle.mat_elem.specs.declared.whole.Element.the-variants as whole
+use Rattle.mat_elem.specs.declared.float.Element as floatElement
+use Rattle.mat_elem.specs.declared.float.Element.the-variants as float
 use Rattle.text.specs.Numbers.{numeral, digits, integral, pattern}
 use Rattle.text.specs.Lists.{listed}
 use Rattle.text.specs.Workers.{Adds}

@@ -64,7 +64,7 @@ fn lent_whole(
 {
     let i = q.x;
     let j = q.z;
-    let e = mat_elem_whole::mat_elem_cmpnts_from_presorted(
+    let e = mat_elem::whole::mat_elem_cmpnts_from_presorted(
         q.n,
         &x[0..i],
         &z[0..j],
@@ -113,7 +113,7 @@ fn lent_float(
 {
     let i = q.x;
     let j = q.z;
-    let e = mat_elem_float::mat_elem_cmpnts_from_presorted(
+    let e = mat_elem::float::mat_elem_cmpnts_from_presorted(
         q.n,
         &x[0..i],
         &z[0..j],

@@ -538,13 +538,13 @@ fn ok_whole(out: &mut [u8], r: Put, re: i64, im: i64) -> Put
     end(out, r)
 }
 
-pub(crate) fn whole(out: &mut [u8], r: Put, a: mat_elem_whole::Element) -> Put
+pub(crate) fn whole(out: &mut [u8], r: Put, a: mat_elem::whole::Element) -> Put
     ensures { λ q. ⌜ Says (wholeLine a) (now (out .entry)) r (now (out .exit)) q ⌝ }
 {
     match a {
-        mat_elem_whole::Element::Sum(re, im) => ok_whole(out, r, re, im),
-        mat_elem_whole::Element::NoBlock => letters(out, r, b"none\n"),
-        mat_elem_whole::Element::Refused(k) => refuse(out, r, k),
+        mat_elem::whole::Element::Sum(re, im) => ok_whole(out, r, re, im),
+        mat_elem::whole::Element::NoBlock => letters(out, r, b"none\n"),
+        mat_elem::whole::Element::Refused(k) => refuse(out, r, k),
     }
 }
 
@@ -557,12 +557,12 @@ fn ok_float(out: &mut [u8], r: Put, re: f64, im: f64) -> Put
     end(out, r)
 }
 
-pub(crate) fn floating(out: &mut [u8], r: Put, a: mat_elem_float::Element) -> Put
+pub(crate) fn floating(out: &mut [u8], r: Put, a: mat_elem::float::Element) -> Put
     ensures { λ q. ⌜ Says (floatLine a) (now (out .entry)) r (now (out .exit)) q ⌝ }
 {
     match a {
-        mat_elem_float::Element::Sum(re, im) => ok_float(out, r, re, im),
-        mat_elem_float::Element::NoBlock => letters(out, r, b"none\n"),
-        mat_elem_float::Element::Refused(k) => refuse(out, r, k),
+        mat_elem::float::Element::Sum(re, im) => ok_float(out, r, re, im),
+        mat_elem::float::Element::NoBlock => letters(out, r, b"none\n"),
+        mat_elem::float::Element::Refused(k) => refuse(out, r, k),
     }
 }

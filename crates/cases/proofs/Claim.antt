@@ -1,5 +1,6 @@
 -- P1 to P12 of RULES 11 and the ends of the floats: the calls' contracts allow, row by row, what it says, by computation. Assumes nothing.
-use mathlib.Core.Path.{_≡_, refl}
+-- Each row is closed: unfolding what does not compute by itself leaves `refl`.
+use mathlib.Core.Path.{refl}
 use lib.Ieee.{add, neg}
 use Rattle.pauli.specs.Row.{padMul, mulRow, bitOf}
 use Rattle.pauli.specs.Rows.{commute, holding, countOf}
@@ -15,9 +16,9 @@ use Rattle.reduction.specs.Capacity.{capped}
 use Rattle.terms.specs.Ranks.{byRank, numbered}
 use Rattle.mat_elem.specs.Terms.{fallsAfter}
 use Rattle.mat_elem.specs.Sums.{sumOver}
-use Rattle.mat_elem_whole.specs.Sums as whole
-use Rattle.mat_elem_float.specs.Sums as float
-use Rattle.mat_elem_float.specs.Sums.{overflows}
+use Rattle.mat_elem.specs.whole.Sums as whole
+use Rattle.mat_elem.specs.float.Sums as float
+use Rattle.mat_elem.specs.float.Sums.{overflows}
 use Rattle.cases.specs.Table.{Table}
 
 pub p1-to-p12 : Table

@@ -5,7 +5,7 @@ use mathlib.Core.Path.{_≡_}
 use mathlib.Core.Bool.{true, false}
 use mathlib.Core.List.{List, [], _∷_}
 use Prim.Native.Nat.{ℕ}
-use lib.IntN.{ℤ, pos, negℤ}
+use lib.IntN.{pos, negℤ}
 use lib.Ieee.{Float, fin}
 use Rattle.pauli.specs.declared.PauliMatrix.the-variants.{I}
 use Rattle.encoding.specs.Set.{Mem, mem}
@@ -17,12 +17,12 @@ use Rattle.cmpnt_list.specs.declared.Phase.the-variants.{Exponent}
 use Rattle.terms.specs.Calls.{Multiplies, Reduces, reducedNumber}
 use Rattle.terms.specs.declared.Clashes.the-variants as clashes
 use Rattle.terms.specs.declared.Canonicalized.the-variants as reduced
-use Rattle.mat_elem_whole.specs.Sums as whole
-use Rattle.mat_elem_whole.specs.declared.Element.{Element}
-use Rattle.mat_elem_whole.specs.declared.Element.the-variants.{Sum, NoBlock}
-use Rattle.mat_elem_float.specs.Sums as float
-use Rattle.mat_elem_float.specs.declared.Element as answer
-use Rattle.mat_elem_float.specs.declared.Element.the-variants as sum
+use Rattle.mat_elem.specs.whole.Sums as whole
+use Rattle.mat_elem.specs.declared.whole.Element.{Element}
+use Rattle.mat_elem.specs.declared.whole.Element.the-variants.{Sum, NoBlock}
+use Rattle.mat_elem.specs.float.Sums as float
+use Rattle.mat_elem.specs.declared.float.Element as answer
+use Rattle.mat_elem.specs.declared.float.Element.the-variants as sum
 
 -- one row of one qubit with phase byte p: I, X, Y, Z
 abbrev rowI : ℕ → Mem

@@ -19,13 +19,13 @@ use Rattle.encoding.proofs.Scan.{some-never}
 use Rattle.mat_elem.specs.Terms.{maxTerms, termTests, inBlock, hasBlock}
 use Rattle.mat_elem.specs.Sums.{sumOver, stepIf}
 use Rattle.mat_elem.proofs.Faults.{sound}
-use Rattle.mat_elem_float.specs.Sums as F
-use Rattle.mat_elem_float.specs.Product.{MatElem as FloatMatElem}
-use Rattle.mat_elem_float.specs.declared.Element.{Element as FloatElement}
-use Rattle.mat_elem_float.proofs.Block.{number-is}
-use Rattle.mat_elem_whole.specs.Sums as W
-use Rattle.mat_elem_whole.specs.Size.{partMax}
-use Rattle.mat_elem_whole.specs.declared.Element.{Element as WholeElement}
+use Rattle.mat_elem.specs.float.Sums as F
+use Rattle.mat_elem.specs.float.Product.{MatElem as FloatMatElem}
+use Rattle.mat_elem.specs.declared.float.Element.{Element as FloatElement}
+use Rattle.mat_elem.proofs.float.Block.{number-is}
+use Rattle.mat_elem.specs.whole.Sums as W
+use Rattle.mat_elem.specs.Workers.{partMax}
+use Rattle.mat_elem.specs.declared.whole.Element.{Element as WholeElement}
 use Rattle.exact.specs.Whole.{sizeAt, sizeTo, exactMax, WholeBlock}
 use Rattle.exact.specs.Claims.{SameParts, Same, sums, none, refused}
 use Rattle.exact.proofs.Reading.{reads-finite}

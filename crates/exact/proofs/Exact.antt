@@ -17,15 +17,15 @@ use Rattle.encoding.proofs.Faults.{orElse, fault-append}
 use Rattle.mat_elem.specs.Terms.{termTests, inBlock, hasBlock}
 use Rattle.mat_elem.specs.Sums.{exponentOf, sumOver, stepIf}
 use Rattle.mat_elem.proofs.SumLaws.{sum-empty}
-use Rattle.mat_elem_float.specs.Sums as F
-use Rattle.mat_elem_float.specs.Product.{MatElem}
-use Rattle.mat_elem_float.specs.declared.Complex.{Complex as FloatComplex}
-use Rattle.mat_elem_float.specs.declared.Element.{Element}
-use Rattle.mat_elem_float.specs.declared.Element.the-variants.{Refused}
-use Rattle.mat_elem_float.proofs.Block.{bad}
-use Rattle.mat_elem_whole.specs.Sums as W
-use Rattle.mat_elem_whole.specs.declared.Complex.{Complex as WholeComplex}
-use Rattle.mat_elem_whole.proofs.Size.{natAbs-neg, natAbs-add}
+use Rattle.mat_elem.specs.float.Sums as F
+use Rattle.mat_elem.specs.float.Product.{MatElem}
+use Rattle.mat_elem.specs.declared.float.Complex.{Complex as FloatComplex}
+use Rattle.mat_elem.specs.declared.float.Element.{Element}
+use Rattle.mat_elem.specs.declared.float.Element.the-variants.{Refused}
+use Rattle.mat_elem.proofs.float.Block.{bad}
+use Rattle.mat_elem.specs.whole.Sums as W
+use Rattle.mat_elem.specs.declared.whole.Complex.{Complex as WholeComplex}
+use Rattle.mat_elem.proofs.whole.Size.{natAbs-neg, natAbs-add}
 use Rattle.exact.specs.Whole.{Reads, whole, sizeAt, sizeTo, exactMax, WholeBlock}
 use Rattle.exact.specs.Claims.{ReadsAs, ExactTo}
 use Rattle.exact.proofs.Reading.{reads-finite, reads-neg, reads-add}

@@ -13,7 +13,7 @@ use lib.Ieee.Exact.{HasValue}
 use lib.Ieee.Back.{round-whole}
 use lib.Ieee.Fits.{down-pos}
 use lib.Ieee.Scale.{finite, round-same}
-use Rattle.mat_elem_float.proofs.Zero.{add-is}
+use Rattle.mat_elem.proofs.float.Zero.{add-is}
 use Rattle.exact.specs.Whole.{signed, Reads, whole, exactMax}
 
 pub reads-finite : (x : Float) (z : ℤ) → Reads x z → T (finite x)

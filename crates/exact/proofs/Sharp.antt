@@ -13,10 +13,10 @@ use Rattle.encoding.specs.Refusals.{faultFrom, some, someBelow}
 use Rattle.encoding.specs.Words.{word, bits}
 use Rattle.mat_elem.specs.Terms.{fallsAfter}
 use Rattle.mat_elem.specs.Sums.{sumOver}
-use Rattle.mat_elem_float.specs.Sums.{overflows, elementOf, plusZero}
-use Rattle.mat_elem_float.specs.declared.Element.the-variants.{Sum}
-use Rattle.mat_elem_float.proofs.Meaning.{AllF64, mat-elem}
-use Rattle.mat_elem_whole.specs.Sums.{complex, blockSum}
+use Rattle.mat_elem.specs.float.Sums.{overflows, elementOf, plusZero}
+use Rattle.mat_elem.specs.declared.float.Element.the-variants.{Sum}
+use Rattle.mat_elem.proofs.float.Meaning.{AllF64, mat-elem}
+use Rattle.mat_elem.specs.whole.Sums.{complex, blockSum}
 use Rattle.exact.specs.Whole.{Reads, whole, sizeTo, exactMax, WholeBlock}
 use Rattle.exact.specs.Claims.{ExactTo}
 use Rattle.exact.proofs.Reading.{reads-one}

@@ -9,13 +9,13 @@ use lib.IntN.{ℤ, pos}
 use lib.ListN.{length, getD}
 use mir.Syntax.{w32}
 use mir.Val.{SFits}
-use Rattle.mat_elem_whole.specs.Sums.{complex, blockSum}
-use Rattle.mat_elem_whole.specs.declared.Complex.{Complex}
-use Rattle.mat_elem_whole.specs.declared.Element.{Element as WholeElement}
-use Rattle.mat_elem_whole.specs.declared.Element.the-variants as W
-use Rattle.mat_elem_float.specs.Product.{MatElem}
-use Rattle.mat_elem_float.specs.declared.Element.{Element as FloatElement}
-use Rattle.mat_elem_float.specs.declared.Element.the-variants as F
+use Rattle.mat_elem.specs.whole.Sums.{complex, blockSum}
+use Rattle.mat_elem.specs.declared.whole.Complex.{Complex}
+use Rattle.mat_elem.specs.declared.whole.Element.{Element as WholeElement}
+use Rattle.mat_elem.specs.declared.whole.Element.the-variants as W
+use Rattle.mat_elem.specs.float.Product.{MatElem}
+use Rattle.mat_elem.specs.declared.float.Element.{Element as FloatElement}
+use Rattle.mat_elem.specs.declared.float.Element.the-variants as F
 use Rattle.exact.specs.Whole.{Reads, WholeBlock}
 
 -- the answer, read as whole numbers, is the sum s: part by part; no block stands for 0; a refusal is no number

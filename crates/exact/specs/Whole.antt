@@ -11,7 +11,7 @@ use lib.ListN.{length, getD}
 use Rattle.encoding.specs.Refusals.{fault}
 use Rattle.mat_elem.specs.Terms.{termTests, inBlock}
 use Rattle.mat_elem.specs.Sums.{sumOver}
-use Rattle.mat_elem_float.specs.Sums.{wild}
+use Rattle.mat_elem.specs.float.Sums.{wild}
 
 -- n with a sign
 abbrev pub signed : Bool → ℕ → ℤ

@@ -1,4 +1,5 @@
 -- A bit set at n or above: the word is above the largest of n bits. Assumes nothing.
+-- By halving: a bit set at n or above is a bit at n - 1 or above of the half, down to a word that is not 0.
 use mathlib.Core.Path.{_≡_, refl, sym, ap, ap₂, _∙_}
 use mathlib.Core.Bool.{Bool, true, false, _||_}
 use mathlib.Core.List.{List, [], _∷_}
@@ -15,7 +16,7 @@ use Rattle.encoding.proofs.Odd.{bit-odd}
 use Rattle.encoding.proofs.Scan.{none-of, some-none}
 use Rattle.encoding.proofs.WordLaws.{half-lt, Fit}
 use Rattle.mat_elem.specs.Terms.{setFrom, badBits}
-use Rattle.mat_elem.specs.Look.{Looked}
+use Rattle.mat_elem.specs.Workers.{Looked}
 
 same-leb : (a b c d : ℕ) → (a ≤ b → c ≤ d) → (c ≤ d → a ≤ b) → leb a b ≡ leb c d
 same-leb a b c d f g = go (leb a b) refl

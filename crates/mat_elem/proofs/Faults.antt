@@ -1,4 +1,5 @@
 -- The lines of the table: tested in two parts, and what it tells that none of them fits the terms. Assumes nothing.
+-- The first part's number comes first (`fault-append`); from number 0 each test is false, and that gives lengths, limits and order.
 use mathlib.Core.Path.{_≡_, refl, sym, ap, ap₂, _∙_, subst₂}
 use mathlib.Core.Bool.{Bool, false, not, _||_}
 use mathlib.Core.List.{List, [], _∷_}
@@ -12,7 +13,8 @@ use lib.ListN.{length}
 use Rattle.encoding.specs.Refusals.{fault, faultFrom}
 use Rattle.encoding.proofs.Faults.{no-test, orElse, or-none, or-first, fault-append}
 use Rattle.encoding.proofs.Scan.{none-of}
-use Rattle.mat_elem.specs.Terms.{minQubits, maxQubits, maxTerms, badCount, tooMany, badLengths, badBits, falls, termTests, blockFrom, blockTo, foundOr, foundOf, BlockOf, PartOf}
+use Rattle.mat_elem.specs.Terms.{minQubits, maxQubits, maxTerms, badCount, tooMany, badLengths, badBits, falls, termTests}
+use Rattle.mat_elem.specs.Workers.{blockFrom, blockTo, foundOr, foundOf, BlockOf, PartOf}
 use Rattle.mat_elem.specs.declared.Found.the-variants.{Block, Refused}
 use Rattle.mat_elem.proofs.Places.{block-of}
 

@@ -1,4 +1,5 @@
 -- Exactly when a call gives a number, and exactly when it gives "no block", for any answer whose three cases differ. Assumes nothing.
+-- By cases on the number and on whether there is a block: each case of the answer comes from one of them alone.
 use mathlib.Core.Path.{_≡_, refl, sym, ap, ap₂}
 use mathlib.Core.Logic.{_↔_}
 use mathlib.Core.Bool.{Bool, true, false}

@@ -1,4 +1,5 @@
 -- One pass over the terms: what it has found so far, with what is still to come, is what there is to find. Assumes nothing.
+-- Invariant: found so far, or found from i on; a step takes the head off what is to come.
 use mathlib.Core.Path.{_≡_, refl, sym, _∙_}
 use mathlib.Core.Bool.{Bool, true, false, _||_, or-false, or-assoc}
 use mathlib.Core.List.{List}
@@ -10,7 +11,7 @@ use lib.ListN.{length, getD, drop, drop-of-length-le}
 use lib.Seq.{drop-cons}
 use Rattle.encoding.specs.Refusals.{some}
 use Rattle.mat_elem.specs.Terms.{fallsAfter, falls}
-use Rattle.mat_elem.specs.Look.{Looked}
+use Rattle.mat_elem.specs.Workers.{Looked}
 
 -- two found now, and two still to come
 found : (a p q r s : Bool) → (a || p || q || (r || s)) ≡ (a || (p || r || (q || s)))

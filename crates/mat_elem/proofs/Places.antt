@@ -11,7 +11,8 @@ use borrow.Author.Tests.{ltb-true, ltb-false, leb-true, leb-false, le-ltb, le-le
 use lib.Arith.{le-zero, lt-of-le-ne}
 use lib.Dec.{ltb, leb}
 use lib.ListN.{length, getD}
-use Rattle.mat_elem.specs.Terms.{falls, howMany, blockFrom, blockTo, BlockOf}
+use Rattle.mat_elem.specs.Terms.{falls}
+use Rattle.mat_elem.specs.Workers.{howMany, blockFrom, blockTo, BlockOf}
 use Rattle.mat_elem.proofs.Order.{rising}
 
 module _ (p : ℕ → Bool) where

@@ -14,7 +14,8 @@ use lib.Dec.{eqb, leb}
 use lib.ListN.{length, getD}
 use Rattle.encoding.specs.Refusals.{someBelow}
 use Rattle.encoding.proofs.Scan.{some-none, some-never, some-at, any-same, any-past}
-use Rattle.mat_elem.specs.Terms.{inBlock, hasBlock, BlockOf}
+use Rattle.mat_elem.specs.Terms.{inBlock, hasBlock}
+use Rattle.mat_elem.specs.Workers.{BlockOf}
 use Rattle.mat_elem.specs.Sums.{turned, stepIf, sumOver}
 
 module _ {A : Type 0} (plus : A → A → A) (none : A) (term : ℕ → A) where

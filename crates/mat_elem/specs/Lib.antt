@@ -1,4 +1,6 @@
 pub mod Terms
 pub mod Sums
 pub mod Operator
-pub mod Look
+pub mod whole
+pub mod float
+pub mod Workers

@@ -1,16 +1,12 @@
--- RULES 8, "Matrix elements", and 9, "Refusals": the limits of the terms, the lines of the table that are tested on them, and where the block of
--- a word lies in X words that never fall. There are as many terms as X words. Assumes nothing.
-use mathlib.Core.Bool.{Bool, false, cond, not, _||_}
+-- RULES 8, "Matrix elements", and 9, "Refusals": the limits of the terms, the lines of the table that are tested on them, and the block of a word. There
+-- are as many terms as X words. Assumes nothing.
+use mathlib.Core.Bool.{Bool, false, not, _||_}
 use mathlib.Core.List.{List, [], _∷_}
-use mathlib.Core.Path.{_≡_}
-use Prim.Native.Nat.{ℕ, zero, suc, _≤_, _<_}
-use lib.Bits.{bitXor}
-use lib.Dec.{leb, ltb, eqb}
+use Prim.Native.Nat.{ℕ}
+use lib.Dec.{ltb, eqb}
 use lib.ListN.{length, getD, drop}
 use Rattle.encoding.specs.Words.{bits}
-use Rattle.encoding.specs.Refusals.{fault, some}
-use Rattle.mat_elem.specs.declared.Found.{Found}
-use Rattle.mat_elem.specs.declared.Found.the-variants.{Block, Refused}
+use Rattle.encoding.specs.Refusals.{some}
 
 -- n from 1 to 64; 0 to 65,536 terms
 abbrev pub minQubits : ℕ
@@ -72,41 +68,3 @@ inBlock xs t i = eqb (getD xs i 0) t
 
 abbrev pub hasBlock : List ℕ → ℕ → Bool
 hasBlock xs t = some (λ w. eqb w t) xs
-
--- how many words pass the test
-unfoldable pub howMany : (ℕ → Bool) → List ℕ → ℕ
-howMany p [] = 0
-howMany p (w ∷ ws) = let k = howMany p ws in cond (p w) (suc k) k
-
--- where X never falls the block starts after the words below t, and ends before those above t
-abbrev pub blockFrom : List ℕ → ℕ → ℕ
-blockFrom xs t = howMany (λ w. ltb w t) xs
-
-abbrev pub blockTo : List ℕ → ℕ → ℕ
-blockTo xs t = howMany (λ w. leb w t) xs
-
--- the words from `first` up to, not including, `last` are t, and no others are
-pub record BlockOf (xs : List ℕ) (t first last : ℕ) : Type 0 where
-  pub ordered : first ≤ last
-  pub within : last ≤ length xs
-  pub before : (k : ℕ) → k < first → getD xs k 0 < t
-  pub inside : (k : ℕ) → first ≤ k → k < last → getD xs k 0 ≡ t
-  pub after : (k : ℕ) → last ≤ k → k < length xs → t < getD xs k 0
-
--- a part of the terms, from `first` up to, not including, `last`, within the X and Z words and the real and imaginary parts, of which these are the lengths
-pub record PartOf (first last x z reals imags : ℕ) : Type 0 where
-  pub ordered : first ≤ last
-  pub in-x : last ≤ x
-  pub in-z : last ≤ z
-  pub in-re : last ≤ reals
-  pub in-im : last ≤ imags
-  pub few : last ≤ maxTerms
-
--- the number of the table, and, where it is 0, the block from its first place up to, not including, its last; empty where no term has that X
-abbrev pub foundOr : ℕ → ℕ → ℕ → Found
-foundOr zero first last = Block first last
-foundOr (suc k) first last = Refused (suc k)
-
-unfoldable pub foundOf : ℕ → List ℕ → List ℕ → ℕ → ℕ → ℕ → ℕ → Found
-foundOf n xs zs reals imags bra ket =
-    foundOr (fault (termTests n xs zs reals imags bra ket)) (blockFrom xs (bitXor bra ket)) (blockTo xs (bitXor bra ket))

@@ -5,10 +5,13 @@ ghost use mathlib.Core.List.{List, [], _∷_};
 ghost use Prim.Native.Nat.{ℕ, suc, _^_, _≤_};
 ghost use lib.ListN.{length};
 ghost use Rattle.encoding.specs.Refusals.{fault, faultFrom};
-ghost use Rattle.mat_elem.specs.Terms.{maxQubits, badCount, tooMany, badLengths, badBits, falls, blockFrom, foundOr, blockTo, foundOf};
+ghost use Rattle.mat_elem.specs.Terms.{maxQubits, badCount, tooMany, badLengths, badBits, falls};
+ghost use Rattle.mat_elem.specs.Workers.{blockFrom, foundOr, blockTo, foundOf, Looked};
 ghost use Rattle.mat_elem.specs.Sums.{exponentOf};
-ghost use Rattle.mat_elem.specs.Look.{Looked};
 use pauli::ComplexSign;
+
+pub mod float;
+pub mod whole;
 
 // n from 1 to 64, and 0 to 65,536 terms.
 pub const MIN_QUBITS: usize = 1;
@@ -18,7 +21,7 @@ pub const MAX_QUBITS: usize = 64;
 pub const MAX_TERMS: usize = 65_536;
 
 // Where the block of a word lies: from its first place up to, not including, its last. Empty where no term has that X.
-pub enum Found {
+pub(crate) enum Found {
     Block(usize, usize),
     Refused(u8),
 }
@@ -128,7 +131,7 @@ fn block(x: &[u64], t: u64) -> Found
 }
 
 // The first line of the table that fits the terms, or else the block of bra XOR ket. Of the coefficients only the lengths of their slices are asked.
-pub fn find_block(
+pub(crate) fn find_block(
     n: usize,
     x: &[u64],
     z: &[u64],
@@ -151,7 +154,7 @@ pub fn find_block(
 }
 
 // The exponent of i of a term's action on the ket.
-pub fn exponent(x: u64, z: u64, ket: u64) -> ComplexSign
+pub(crate) fn exponent(x: u64, z: u64, ket: u64) -> ComplexSign
     ensures { λ r. ⌜ r .0 ≡ exponentOf x z ket ⌝ }
 {
     ComplexSign(products::mul_op_state_phase_u64(x, z, ket) as u8)

@@ -14,8 +14,8 @@ use Rattle.encoding.specs.Set.{Mem}
 use Rattle.replay.specs.Check.{Task, Claim, Checked}
 use Rattle.replay.specs.declared.Verdict.{Verdict}
 use Rattle.replay.specs.declared.Verdict.the-variants as verdict
-use Rattle.mat_elem_float.specs.declared.Element.{Element}
-use Rattle.mat_elem_float.specs.declared.Element.the-variants as element
+use Rattle.mat_elem.specs.declared.float.Element.{Element}
+use Rattle.mat_elem.specs.declared.float.Element.the-variants as element
 
 -- what the call's own contract says, of the answer that the caller sees
 pub record Told {A : Type 0} (Call Seen : A → Type 0) : Type 0 where

@@ -4,10 +4,10 @@ ghost use Rattle.encoding.specs.Lent.{before, after};
 ghost use Rattle.cmpnt_list.specs.Calls.{CompatibilityMatrix, MulPairwise};
 ghost use Rattle.terms.specs.Calls.{Multiplies, ReducesAll, reducedNumber};
 ghost use Rattle.replay.specs.Check.{task, claim};
-ghost use Rattle.mat_elem_float.specs.Product.{MatElem};
+ghost use Rattle.mat_elem.specs.float.Product.{MatElem};
 ghost use Rattle.speed.specs.Told.{Told, Number, numberOf, productNumber, clashesOr, Multiplied, Counted, entriesOr, pivotsOr, verdictNumber, placeOr, Placed, CheckedOn, Parted, elementNumber, realOr, imagOr};
 use encoding::Answer;
-use mat_elem_float::Element;
+use mat_elem::float::Element;
 use pauli::RowNumber;
 use replay::Verdict;
 use terms::Canonicalized;
@@ -237,7 +237,7 @@ pub extern "C" fn speed_mat_elem_cmpnts_from_presorted(
     ensures { λ r. ⌜ Told (MatElem n (now (x .entry)) (now (z .entry)) (now (re .entry)) (now (im .entry)) bra ket)
         (Parted (now (real .entry)) (now (imag .entry)) (now (real .exit)) (now (imag .exit)) r) ⌝ }
 {
-    let a = mat_elem_float::mat_elem_cmpnts_from_presorted(n, x, z, re, im, bra, ket);
+    let a = mat_elem::float::mat_elem_cmpnts_from_presorted(n, x, z, re, im, bra, ket);
     let p = parted(a, *real, *imag);
     *real = p.re;
     *imag = p.im;

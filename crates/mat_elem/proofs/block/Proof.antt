@@ -1,3 +1,5 @@
+-- Invariant: from the block's start up to `last` every word is t (`Run`), so no word before `last` is above t.
+-- The first word that is not t is above it, since X never falls: `last` is the number of words that are not above t.
 use borrow.Author.Needs.{needs}
 use native.Mathlib.Omega.{arith}
 use mathlib.Core.Path.{ap₂}

@@ -1,3 +1,5 @@
+-- No loop: lines 1 to 3, then 4 to 10, then the block: a number of the first part comes before one of the second (`found-shape`, `found-words`).
+-- What each part asks of the one before it holds since its number is 0.
 use mathlib.Core.Path.{sym, _∙_}
 use lib.ListN.{length}
 use borrow.Author.Needs.{needs}

@@ -1,3 +1,5 @@
+-- Invariant: what was found so far, or is found from i on, is what there is to find in all terms (`Looking`).
+-- A step moves one term from "still to come" to "found"; at the end nothing is to come.
 use borrow.Author.Needs.{needs}
 use native.Mathlib.Omega.{arith}
 use Prim.Native.Nat.{_-_}

@@ -1,3 +1,5 @@
+-- Invariant: words before lo are below t, words from hi on are not. X never falls, so the word in the middle settles one half.
+-- Where lo meets hi it is the number of words below t, which is where the block starts.
 use mathlib.Core.Path.{sym}
 use borrow.Author.Tests.{lt-ltb, le-ltb}
 use lib.Dec.{ltb}

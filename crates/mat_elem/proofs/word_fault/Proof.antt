@@ -1,3 +1,5 @@
+-- No loop: one pass over the terms, and bra and ket beside it, tell the lines 4 and 10 (`bits-seen`).
+-- A bit at n or above is a word above the largest of n bits.
 use borrow.Author.Needs.{needs}
 use Rattle.encoding.specs.Refusals.{faultFrom}
 use Rattle.mat_elem.proofs.Bits.{bits-seen}

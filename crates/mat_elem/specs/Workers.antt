@@ -1,0 +1,92 @@
+-- What the inner functions of this crate ask and leave: one pass over the terms, where the block lies, how large whole-number sums are, and the float sum
+-- from one place up to another. Assumes nothing.
+use mathlib.Core.Bool.{Bool, cond, not, _||_}
+use mathlib.Core.List.{List, [], _∷_}
+use mathlib.Core.Path.{_≡_}
+use Prim.Native.Nat.{ℕ, zero, suc, _*_, _^_, _≤_, _<_}
+use lib.Bits.{bitXor}
+use lib.Dec.{leb, ltb}
+use lib.Ieee.{Float}
+use lib.IntN.{natAbs}
+use lib.ListN.{length, getD}
+use Rattle.encoding.specs.Refusals.{fault, some, someBelow}
+use Rattle.mat_elem.specs.Terms.{maxTerms, termTests, falls}
+use Rattle.mat_elem.specs.Sums.{sumOver}
+use Rattle.mat_elem.specs.float.Sums as F
+use Rattle.mat_elem.specs.declared.Found.{Found}
+use Rattle.mat_elem.specs.declared.Found.the-variants.{Block, Refused}
+use Rattle.mat_elem.specs.declared.whole.Complex.{Complex}
+use Rattle.mat_elem.specs.declared.float.Complex as float
+use Rattle.mat_elem.specs.declared.float.Element as answer
+use Rattle.mat_elem.specs.declared.float.Element.the-variants as floatElement
+
+-- ---- one pass over the terms: words above the largest of n bits, and falls
+pub record Looked (xs zs : List ℕ) (top : ℕ) (above fell : Bool) : Type 0 where
+  pub is-above : above ≡ (some (λ w. ltb top w) xs || some (λ w. ltb top w) zs)
+  pub is-fell : fell ≡ falls xs
+
+-- ---- where the block of t lies
+
+-- how many words pass the test
+unfoldable pub howMany : (ℕ → Bool) → List ℕ → ℕ
+howMany p [] = 0
+howMany p (w ∷ ws) = let k = howMany p ws in cond (p w) (suc k) k
+
+-- where X never falls the block starts after the words below t, and ends before those above t
+abbrev pub blockFrom : List ℕ → ℕ → ℕ
+blockFrom xs t = howMany (λ w. ltb w t) xs
+
+abbrev pub blockTo : List ℕ → ℕ → ℕ
+blockTo xs t = howMany (λ w. leb w t) xs
+
+-- the words from `first` up to, not including, `last` are t, and no others are
+pub record BlockOf (xs : List ℕ) (t first last : ℕ) : Type 0 where
+  pub ordered : first ≤ last
+  pub within : last ≤ length xs
+  pub before : (k : ℕ) → k < first → getD xs k 0 < t
+  pub inside : (k : ℕ) → first ≤ k → k < last → getD xs k 0 ≡ t
+  pub after : (k : ℕ) → last ≤ k → k < length xs → t < getD xs k 0
+
+-- a part of the terms, from `first` up to, not including, `last`, within the X and Z words and the real and imaginary parts, of which these are the lengths
+pub record PartOf (first last x z reals imags : ℕ) : Type 0 where
+  pub ordered : first ≤ last
+  pub in-x : last ≤ x
+  pub in-z : last ≤ z
+  pub in-re : last ≤ reals
+  pub in-im : last ≤ imags
+  pub few : last ≤ maxTerms
+
+-- the number of the table, and, where it is 0, the block from its first place up to, not including, its last; empty where no term has that X
+abbrev pub foundOr : ℕ → ℕ → ℕ → Found
+foundOr zero first last = Block first last
+foundOr (suc k) first last = Refused (suc k)
+
+unfoldable pub foundOf : ℕ → List ℕ → List ℕ → ℕ → ℕ → ℕ → ℕ → Found
+foundOf n xs zs reals imags bra ket =
+    foundOr (fault (termTests n xs zs reals imags bra ket)) (blockFrom xs (bitXor bra ket)) (blockTo xs (bitXor bra ket))
+
+-- ---- whole numbers: i32 parts, i64 sums and 65,536 terms (RULES 8.1, 8.7), so that no sum leaves its 64 bits
+
+-- of a coefficient, and of a sum
+abbrev pub partMax : ℕ
+partMax = 2 ^ 31
+
+abbrev pub sumMax : ℕ
+sumMax = maxTerms * partMax
+
+-- both parts are at most m in size
+pub record Within (m : ℕ) (c : Complex) : Type 0 where
+  pub re-le : natAbs (c .re) ≤ m
+  pub im-le : natAbs (c .im) ≤ m
+
+-- ---- floats: the sum from one place up to, not including, another, or 12 where a partial sum is not finite
+
+abbrev pub spanSum : List ℕ → List ℕ → List Float → List Float → ℕ → ℕ → ℕ → float.Complex
+spanSum xs zs re im ket first n = sumOver (λ i. leb first i) F.plus (F.complex F.plusZero F.plusZero) (F.termAt xs zs re im ket) n
+
+abbrev pub sumOf : float.Complex → answer.Element
+sumOf s = floatElement.Sum (s .re) (s .im)
+
+unfoldable pub spanOf : List ℕ → List ℕ → List Float → List Float → ℕ → ℕ → ℕ → answer.Element
+spanOf xs zs re im ket first last =
+    cond (someBelow (suc last) (λ n. not (F.bothFinite (spanSum xs zs re im ket first n)))) (floatElement.Refused 12) (sumOf (spanSum xs zs re im ket first last))

@@ -1,0 +1,142 @@
+// Matrix elements with coefficients of two whole numbers.
+ghost use mathlib.Core.Path.{_≡_};
+ghost use mathlib.Core.Bool.{Bool};
+ghost use Prim.Native.Nat.{ℕ};
+ghost use lib.Dec.{leb};
+ghost use lib.IntN.{pos, negℤ, _+ℤ_};
+ghost use lib.ListN.{length};
+ghost use mir.Syntax.{w64};
+ghost use mir.Val.{SFits};
+ghost use Rattle.mat_elem.specs.Workers.{PartOf, partMax, sumMax, Within};
+ghost use Rattle.mat_elem.specs.Sums.{sumOver};
+ghost use Rattle.mat_elem.specs.whole.Sums.{complex, turnedBy, plus, termAt, MatElem};
+use crate::Found;
+use pauli::ComplexSign;
+
+// A complex whole number.
+pub struct Complex {
+    pub re: i64,
+    pub im: i64,
+}
+
+// What the call answers.
+pub enum Element {
+    Sum(i64, i64),
+    NoBlock,
+    Refused(u8),
+}
+
+// A coefficient, from its two parts.
+fn coefficient(re: i32, im: i32) -> Complex
+    ensures { λ r. ⌜ (r ≡ complex re im) × Within partMax (complex re im) ⌝ }
+{
+    Complex {
+        re: re as i64,
+        im: im as i64,
+    }
+}
+
+fn sum(a: i64, b: i64) -> i64
+    requires { ⌜ SFits w64 (a +ℤ b) ⌝ }
+    ensures { λ r. ⌜ r ≡ a +ℤ b ⌝ }
+{
+    a + b
+}
+
+fn minus(a: i64) -> i64
+    requires { ⌜ SFits w64 (negℤ a) ⌝ }
+    ensures { λ r. ⌜ r ≡ negℤ a ⌝ }
+{
+    -a
+}
+
+// c times i to the k.
+fn turn(c: Complex, k: ComplexSign) -> Complex
+    requires { ⌜ Within partMax c ⌝ }
+    ensures { λ r. ⌜ r ≡ turnedBy (k .0) c ⌝ }
+{
+    let e = k.0;
+    match e {
+        0 => c,
+        1 => Complex {
+            re: minus(c.im),
+            im: c.re,
+        },
+        2 => Complex {
+            re: minus(c.re),
+            im: minus(c.im),
+        },
+        _ => Complex {
+            re: c.im,
+            im: minus(c.re),
+        },
+    }
+}
+
+fn add(a: Complex, b: Complex) -> Complex
+    requires { ⌜ Within sumMax a ⌝ }
+    requires { ⌜ Within partMax b ⌝ }
+    ensures { λ r. ⌜ r ≡ plus a b ⌝ }
+{
+    Complex {
+        re: sum(a.re, b.re),
+        im: sum(a.im, b.im),
+    }
+}
+
+// The sum with one coefficient more, turned by k.
+fn step(s: Complex, re: i32, im: i32, k: ComplexSign) -> Complex
+    requires { ⌜ Within sumMax s ⌝ }
+    ensures { λ r. ⌜ r ≡ plus s (turnedBy (k .0) (complex re im)) ⌝ }
+{
+    add(s, turn(coefficient(re, im), k))
+}
+
+// The sum of the terms from `first` up to, not including, `last`.
+fn block_sum(
+    x: &[u64],
+    z: &[u64],
+    re: &[i32],
+    im: &[i32],
+    ket: u64,
+    first: usize,
+    last: usize,
+) -> Complex
+    requires { ⌜ PartOf first last (length (now x)) (length (now z)) (length (now re)) (length (now im)) ⌝ }
+    ensures { λ r. ⌜ r ≡ sumOver (λ i. leb first i) plus (complex (pos 0) (pos 0)) (termAt (now (x .entry)) (now (z .entry)) (now (re .entry)) (now (im .entry)) ket) last ⌝ }
+    ensures { λ r. ⌜ Within sumMax r ⌝ }
+{
+    let mut i = first;
+    let mut s = Complex { re: 0, im: 0 };
+    while i < last {
+        let k = crate::exponent(x[i], z[i], ket);
+        s = step(s, re[i], im[i], k);
+        i += 1;
+    }
+    s
+}
+
+// The matrix element of the terms between bra and ket.
+pub fn mat_elem_cmpnts_from_presorted(
+    n: usize,
+    x: &[u64],
+    z: &[u64],
+    re: &[i32],
+    im: &[i32],
+    bra: u64,
+    ket: u64,
+) -> Element
+    ensures { λ r. ⌜ MatElem n (now (x .entry)) (now (z .entry)) (now (re .entry)) (now (im .entry)) bra ket r ⌝ }
+{
+    let found = crate::find_block(n, x, z, re.len(), im.len(), bra, ket);
+    match found {
+        Found::Refused(k) => Element::Refused(k),
+        Found::Block(first, last) => {
+            if last <= first {
+                return Element::NoBlock;
+            }
+            let s = block_sum(x, z, re, im, ket, first, last);
+            Element::Sum(s.re, s.im)
+        }
+    }
+}

@@ -1,3 +1,0 @@
-pub mod Sums
-pub mod Product
-pub mod Span
