@@ -13,6 +13,11 @@ pub not-so : (b : Bool) → (b ≡ true → ⊥) → b ≡ false
 not-so true h = absurd (h refl)
 not-so false h = refl
 
+-- and one that is not false is true
+pub is-so : (b : Bool) → (b ≡ false → ⊥) → b ≡ true
+is-so true h = refl
+is-so false h = absurd (h refl)
+
 -- ---- and, or
 
 pub T-left : (a b : Bool) → T (a && b) → T a
@@ -42,17 +47,21 @@ pub or-true-or : (a b : Bool) → (a || b) ≡ true → (a ≡ true) ⊎ (b ≡ 
 or-true-or true b e = inl refl
 or-true-or false b e = inr e
 
+pub none-of : (a b : Bool) → (a || b) ≡ false → (a ≡ false) × (b ≡ false)
+none-of true b e = absurd (false≢true (sym e))
+none-of false b e = (refl, e)
+
 pub or-right : (a : Bool) {b : Bool} → b ≡ true → (a || b) ≡ true
 or-right true e = refl
 or-right false e = e
 
 -- ---- the same bit
 
-pub beq→ : (a b : Bool) → Bool·beq a b ≡ true → a ≡ b
-beq→ true true e = refl
-beq→ true false e = sym e
-beq→ false true e = e
-beq→ false false e = refl
+pub same-bit : (a b : Bool) → T (Bool·beq a b) → a ≡ b
+same-bit true true t = refl
+same-bit true false t = absurd t
+same-bit false true t = absurd t
+same-bit false false t = refl
 
 pub beq-same : (a : Bool) → Bool·beq a a ≡ true
 beq-same true = refl

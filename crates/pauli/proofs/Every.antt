@@ -1,16 +1,17 @@
--- A test at every Pauli, at both bits, or at each number below m, and what it shows of each: a table's rule by one computed test. Assumes nothing.
-use mathlib.Core.Path.{_≡_, refl, sym, ap, ap₂, _∙_}
-use mathlib.Core.Bool.{Bool, true, false, _&&_, false≢true}
-use Prim.Native.Nat.{ℕ, zero, suc, _+_, _<_}
-use native.Mathlib.Decide.{ℕ-discrete}
-use native.Mathlib.Numerals.{add-one}
-use native.Mathlib.Omega.{arith}
+-- A test at every Pauli, at both bits, or at each number below m, which antt computes, and what it shows of each: a table's rule by one computed test.
+-- Where a rule has several arguments, the test over one is made of the tests over the next (`at₂` to `at₄`). Assumes nothing.
+use mathlib.Core.Path.{_≡_, refl, sym, ap, ap₂, _∙_, subst}
+use mathlib.Core.Bool.{Bool, true, false, _&&_, Bool·beq}
+use Prim.Native.Nat.{ℕ, _<_}
 use lib.Dec.{T, eqb, eqb→eq}
+use lib.Ieee.Bits.{is-true}
 use lib.IntN.{ℤ, pos, negsuc}
 use Rattle.pauli.specs.Gauss.{Gauss}
-use Rattle.pauli.specs.Pauli.{Pauli, I, X, Y, Z}
-use Rattle.pauli.specs.Rows.{everyBelow}
-use Rattle.pauli.proofs.Bools.{T-left, T-right, and-left, and-right, not-so}
+use Rattle.pauli.specs.Pauli.{Pauli, I, X, Y, Z, ofBits, hasX, hasZ}
+use Rattle.pauli.specs.Row.{eqP}
+use Rattle.pauli.specs.Lists.{everyBelow}
+use Rattle.pauli.proofs.Bools.{T-left, T-right, same-bit}
+use Rattle.pauli.proofs.Scan.{every-at}
 use Rattle.pauli.proofs.GaussRing.{by-parts}
 
 abbrev pub everyP : (Pauli → Bool) → Bool
@@ -49,30 +50,45 @@ eqG→eq u v t =
     by-parts (eqZ→eq (u .re) (v .re) (T-left (eqZ (u .re) (v .re)) (eqZ (u .im) (v .im)) t))
     (eqZ→eq (u .im) (v .im) (T-right (eqZ (u .re) (v .re)) (eqZ (u .im) (v .im)) t))
 
+-- ---- a Pauli is its two bits
+
+pub both-of : (p : Pauli) → ofBits (hasX p) (hasZ p) ≡ p
+both-of I = refl
+both-of X = refl
+both-of Y = refl
+both-of Z = refl
+
+pub same-pauli : (p q : Pauli) → T (eqP p q) → p ≡ q
+same-pauli p q t =
+    let x = Bool·beq (hasX p) (hasX q) in
+    let z = Bool·beq (hasZ p) (hasZ q) in
+    sym (both-of p) ∙ ap₂ ofBits (same-bit (hasX p) (hasX q) (T-left x z t)) (same-bit (hasZ p) (hasZ q) (T-right x z t)) ∙ both-of q
+
 -- ---- a test at each number below m
 
-pub every-at : (f : ℕ → Bool) (m : ℕ) → everyBelow m f ≡ true → (k : ℕ) → k < m → f k ≡ true
-unfolding everyBelow
-every-at f zero e k h = absurd (omega arith)
-every-at f (suc m) e k h = go (λ i. every-at f m (and-left (everyBelow m f) (f m) e) k (omega arith)) (ℕ-discrete k m)
-  where
-    go : ((k ≡ m → ⊥) → f k ≡ true) → Dec (k ≡ m) → f k ≡ true
-    go below (yes i) = ap f i ∙ and-right (everyBelow m f) (f m) e
-    go below (no i) = below i
+pub below : (m : ℕ) (f : ℕ → Bool) → T (everyBelow m f) → (k : ℕ) → k < m → T (f k)
+below m f t k h = subst T (sym (every-at f m (is-true (everyBelow m f) t) k h)) tt
 
-pub every-all : (f : ℕ → Bool) (m : ℕ) → ((k : ℕ) → k < m → f k ≡ true) → everyBelow m f ≡ true
-unfolding everyBelow
-every-all f zero h = refl
-every-all f (suc m) h = ap₂ (λ (s t : Bool). s && t) (every-all f m (λ k l. h k (omega arith))) (h m (omega arith))
+-- ---- a test of several
 
-module _ (f : ℕ → Bool) where
-  pub every-none : everyBelow 0 f ≡ true
-  unfolding everyBelow
-  every-none = refl
+pub record Tried (A : Type 0) : Type 0 where
+  pub all : (A → Bool) → Bool
+  pub at : (f : A → Bool) → T (all f) → (a : A) → T (f a)
 
-  pub every-more : (k : ℕ) → everyBelow k f ≡ true → f k ≡ true → everyBelow (k + 1) f ≡ true
-  unfolding everyBelow
-  every-more k e g = ap (λ (j : ℕ). everyBelow j f) (add-one k) ∙ ap₂ _&&_ e g
+abbrev pub paulis : Tried Pauli
+paulis = record { all = everyP; at = atP }
 
-  pub every-not : (m k : ℕ) → k < m → f k ≡ false → everyBelow m f ≡ false
-  every-not m k h e = not-so (everyBelow m f) (λ q. false≢true (sym e ∙ every-at f m q k h))
+abbrev pub bits : Tried Bool
+bits = record { all = everyB; at = atB }
+
+module _ {A B : Type 0} (F : Tried A) (G : Tried B) where
+  pub at₂ : (f : A → B → Bool) → T (F .all (λ a. G .all (f a))) → (a : A) (b : B) → T (f a b)
+  at₂ f t a b = G .at (f a) (F .at (λ a. G .all (f a)) t a) b
+
+module _ {A B C : Type 0} (F : Tried A) (G : Tried B) (H : Tried C) where
+  pub at₃ : (f : A → B → C → Bool) → T (F .all (λ a. G .all (λ b. H .all (f a b)))) → (a : A) (b : B) (c : C) → T (f a b c)
+  at₃ f t a = at₂ G H (f a) (F .at (λ a. G .all (λ b. H .all (f a b))) t a)
+
+module _ {A B C D : Type 0} (F : Tried A) (G : Tried B) (H : Tried C) (K : Tried D) where
+  pub at₄ : (f : A → B → C → D → Bool) → T (F .all (λ a. G .all (λ b. H .all (λ c. K .all (f a b c))))) → (a : A) (b : B) (c : C) (d : D) → T (f a b c d)
+  at₄ f t a = at₃ G H K (f a) (F .at (λ a. G .all (λ b. H .all (λ c. K .all (f a b c)))) t a)

@@ -2,6 +2,7 @@ pub mod Bools
 pub mod Lists
 pub mod IntRing
 pub mod GaussRing
+pub mod Scan
 pub mod Every
 pub mod Products
 pub mod Phases

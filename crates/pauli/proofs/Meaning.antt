@@ -4,31 +4,26 @@ use mathlib.Core.Path.{_≡_, refl, sym, ap, ap₂, _∙_}
 use mathlib.Core.Logic.{_↔_}
 use mathlib.Core.Bool.{Bool, true, false}
 use mathlib.Core.List.{List, [], _∷_}
-use Prim.Native.Nat.{ℕ, zero, suc, _+_, _*_, _%_, _<_}
+use Prim.Native.Nat.{ℕ, suc, _+_, _*_, _%_, _<_}
 use native.Mathlib.Omega.{arith}
 use borrow.Author.Tests.{eqb-true, eqb-false, eq-eqb, ne-eqb}
 use lib.ListN.{length, take, replicate, length-replicate}
-use Rattle.pauli.specs.Gauss.{Gauss, _⊕_, _⊗_, minus, g0, ipow}
-use Rattle.pauli.specs.Pauli.{Pauli, I, X, Y, Z, _·_, phase, mul, phases, turn, act, actPhase, clashes}
+use Rattle.pauli.specs.Gauss.{Gauss, _⊗_, minus, g0, ipow}
+use Rattle.pauli.specs.Pauli.{Pauli, I, X, Y, Z, phase, mul, phases, turn, act, actPhase, clashes}
 use Rattle.pauli.specs.Row.{Row, padMul, expo, mulRow, bitRow}
 use Rattle.pauli.specs.Rows.{phaseOf, clashesOf, commute, central, holding, countOf, actOn, actPhaseOn}
-use Rattle.pauli.specs.Matrix.{entry, matrix, times, scaled, Same, Commute, Anticommute, onQubits, matrixOf, rowMatrix, basis, apply}
+use Rattle.pauli.specs.Matrix.{matrix, times, scaled, Same, Commute, Anticommute, onQubits, matrixOf, rowMatrix, basis, apply}
 use Rattle.pauli.proofs.Bools.{xor-same}
-use Rattle.pauli.proofs.Every.{every-at, every-all}
+use Rattle.pauli.proofs.Scan.{every-at, every-all}
 use Rattle.pauli.proofs.GaussRing.{⊗-assoc, g1-⊗, ipow-add, minus-is, minus-minus, ipow-low, ipow-mod, never}
 use Rattle.pauli.proofs.Lists.{length-each}
-use Rattle.pauli.proofs.Products.{one, half, product}
+use Rattle.pauli.proofs.Products.{half, product}
 use Rattle.pauli.proofs.Phases.{phases-swap, mul-comm, act-phase, act-mul}
 use Rattle.pauli.proofs.RowLaws.{phase-I, phases-pad, pad-take, pad-mul, bit-mul}
 use Rattle.pauli.proofs.OnQubits.{length-on, on-same, take-same, on-mul, total-on, holding-on, I-on}
 use Rattle.pauli.proofs.Vectors.{⊗-g0, ⊗-g1, sum-basis, column-is, column-here, basis-here, basis-elsewhere}
 
 -- ---- products
-
--- the sixteen products of one qubit, against the 2x2 matrices
-pub one-qubit-products : (p q : Pauli) (a b : Bool)
-    → entry p a false ⊗ entry q false b ⊕ entry p a true ⊗ entry q true b ≡ ipow (phase p q) ⊗ entry (p · q) a b
-one-qubit-products = one
 
 -- the exponent of a product is the sum over the n qubits
 expo-on : (n : ℕ) (a b : Row) → phases (onQubits n (a .ps)) (onQubits n (b .ps)) ≡ expo n a b

@@ -2,30 +2,28 @@
 use mathlib.Core.Path.{_≡_, refl, sym, ap, ap₂, _∙_, fun-ext}
 use mathlib.Core.Bool.{Bool, true, false}
 use mathlib.Core.List.{List, [], _∷_}
-use Prim.Native.Nat.{ℕ, zero, suc, _+_, _*_, _%_}
+use Prim.Native.Nat.{ℕ, zero, suc}
 use native.Mathlib.Nat.{suc-inj}
 use native.Mathlib.Omega.{arith}
-use lib.Dec.{T, eqb, eqb→eq}
 use lib.ListN.{length}
-use Rattle.pauli.specs.Gauss.{Gauss, _⊕_, _⊗_, g0, g1, gi, ipow}
+use Rattle.pauli.specs.Gauss.{Gauss, _⊕_, _⊗_, ipow}
 use Rattle.pauli.specs.Matrix.{entry, matrix, sum, times}
-use Rattle.pauli.specs.Pauli.{Pauli, I, X, Y, Z, _·_, phase, mul, phases, turn, turnPhase, act, actPhase}
-use Rattle.pauli.proofs.GaussRing.{⊗-comm, ⊗-assoc, ⊕-⊗, ⊗-⊕, ⊗-four, g1-⊗, g0-⊗, ipow-add}
-use Rattle.pauli.proofs.Every.{everyP, atP, everyB, atB, eqG, eqG→eq}
+use Rattle.pauli.specs.Pauli.{Pauli, _·_, phase, mul, phases}
+use Rattle.pauli.proofs.GaussRing.{⊕-⊗, ⊗-⊕, ⊗-four, ipow-add}
+use Rattle.pauli.proofs.Every.{paulis, bits, at₄, eqG, eqG→eq}
 
 -- ---- one qubit
 
 one-product : Pauli → Pauli → Bool → Bool → Bool
 one-product p q a b = eqG (entry p a false ⊗ entry q false b ⊕ entry p a true ⊗ entry q true b) (ipow (phase p q) ⊗ entry (p · q) a b)
 
-pub one : (p q : Pauli) (a b : Bool)
+-- the sixteen products, against the 2x2 matrices
+pub one-qubit-products : (p q : Pauli) (a b : Bool)
     → entry p a false ⊗ entry q false b ⊕ entry p a true ⊗ entry q true b ≡ ipow (phase p q) ⊗ entry (p · q) a b
 unfolding one-product
-one p q a b =
+one-qubit-products p q a b =
     eqG→eq (entry p a false ⊗ entry q false b ⊕ entry p a true ⊗ entry q true b) (ipow (phase p q) ⊗ entry (p · q) a b)
-    (atB (one-product p q a)
-    (atB (λ a. everyB (one-product p q a))
-    (atP (λ q. everyB (λ a. everyB (one-product p q a))) (atP (λ p. everyP (λ q. everyB (λ a. everyB (one-product p q a)))) tt p) q) a) b)
+    (at₄ paulis paulis bits bits one-product tt p q a b)
 
 -- ---- sums
 
@@ -59,6 +57,6 @@ product (p ∷ ps) (q ∷ qs) (a ∷ r) (b ∷ c) h₁ h₂ h₃ =
     (half n (entry p a false) (entry q false b) (matrix ps r) (λ s. matrix qs s c))
     (half n (entry p a true) (entry q true b) (matrix ps r) (λ s. matrix qs s c))
     ∙ sym (⊕-⊗ (entry p a false ⊗ entry q false b) (entry p a true ⊗ entry q true b) rest)
-    ∙ ap₂ (λ (x y : Gauss). x ⊗ y) (one p q a b) (product ps qs r c (suc-inj h₁) (suc-inj h₂) (suc-inj h₃))
+    ∙ ap₂ (λ (x y : Gauss). x ⊗ y) (one-qubit-products p q a b) (product ps qs r c (suc-inj h₁) (suc-inj h₂) (suc-inj h₃))
     ∙ ⊗-four (ipow (phase p q)) (entry (p · q) a b) (ipow (phases ps qs)) (matrix (mul ps qs) r c)
     ∙ ap (λ (x : Gauss). x ⊗ (entry (p · q) a b ⊗ matrix (mul ps qs) r c)) (sym (ipow-add (phase p q) (phases ps qs)))

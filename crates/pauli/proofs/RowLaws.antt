@@ -1,5 +1,5 @@
 -- Rows of Paulis: bits of a product, associativity, and exponents that go by the bits, with no premise on lengths. Assumes nothing.
-use mathlib.Core.Path.{_≡_, refl, sym, ap, ap₂, _∙_, subst}
+use mathlib.Core.Path.{_≡_, refl, sym, ap, ap₂, _∙_}
 use mathlib.Core.Bool.{Bool, true, false, cond, xor}
 use mathlib.Core.List.{List, [], _∷_}
 use Prim.Native.Nat.{ℕ, zero, suc, _+_, _-_, _%_, _<_, _≤_}
@@ -10,8 +10,10 @@ use lib.Dec.{ltb}
 use lib.ListN.{length, getD, take}
 use borrow.Author.Tests.{lt-ltb, le-ltb}
 use Rattle.pauli.specs.Pauli.{Pauli, I, X, Y, Z, _·_, phase, phases, ofBits, hasX, hasZ, mul}
-use Rattle.pauli.specs.Row.{Row, padMul, expo, mulRow, bitOf, bitRow}
+use Rattle.pauli.specs.Row.{Row, eqP, padMul, expo, mulRow, bitOf, bitRow}
 use Rattle.pauli.proofs.Bools.{xor-assoc}
+pub use Rattle.pauli.proofs.Every.{both-of}
+use Rattle.pauli.proofs.Every.{bits, at₄, same-pauli}
 use Rattle.pauli.proofs.Phases.{phases-assoc}
 
 -- ---- one qubit
@@ -31,22 +33,8 @@ phase-I Z = refl
 -- the four Paulis are the pairs of bits, and the product adds the bits
 of-mul : (a b c d : Bool) → ofBits a b · ofBits c d ≡ ofBits (xor a c) (xor b d)
 unfolding xor
-of-mul false false false false = refl
-of-mul false false false true = refl
-of-mul false false true false = refl
-of-mul false false true true = refl
-of-mul false true false false = refl
-of-mul false true false true = refl
-of-mul false true true false = refl
-of-mul false true true true = refl
-of-mul true false false false = refl
-of-mul true false false true = refl
-of-mul true false true false = refl
-of-mul true false true true = refl
-of-mul true true false false = refl
-of-mul true true false true = refl
-of-mul true true true false = refl
-of-mul true true true true = refl
+of-mul a b c d =
+    same-pauli (ofBits a b · ofBits c d) (ofBits (xor a c) (xor b d)) (at₄ bits bits bits bits (λ a b c d. eqP (ofBits a b · ofBits c d) (ofBits (xor a c) (xor b d))) tt a b c d)
 
 pub hasX-of : (a b : Bool) → hasX (ofBits a b) ≡ a
 hasX-of false false = refl
@@ -59,12 +47,6 @@ hasZ-of false false = refl
 hasZ-of false true = refl
 hasZ-of true false = refl
 hasZ-of true true = refl
-
-pub both-of : (p : Pauli) → ofBits (hasX p) (hasZ p) ≡ p
-both-of I = refl
-both-of X = refl
-both-of Y = refl
-both-of Z = refl
 
 mul-bits : (p q : Pauli) → p · q ≡ ofBits (xor (hasX p) (hasX q)) (xor (hasZ p) (hasZ q))
 mul-bits p q = ap₂ _·_ (sym (both-of p)) (sym (both-of q)) ∙ of-mul (hasX p) (hasZ p) (hasX q) (hasZ q)

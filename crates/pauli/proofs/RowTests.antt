@@ -1,24 +1,20 @@
 -- The tests on two rows: the same Paulis at each qubit, and commuting, which goes in either order. Assumes nothing.
 use mathlib.Core.Path.{_≡_, refl, sym, ap, ap₂, _∙_, subst}
-use mathlib.Core.Bool.{true, Bool·beq}
+use mathlib.Core.Bool.{true}
 use mathlib.Core.List.{List, [], _∷_}
 use Prim.Native.Nat.{ℕ, zero, suc, _+_, _%_, _≤_, _<_, zero-le}
-use native.Mathlib.Decide.{ℕ-discrete}
 use native.Mathlib.Omega.{arith}
-use lib.Dec.{eqb, eqb→eq, leb, leb→le}
+use borrow.Author.Count.{below-more}
+use lib.Dec.{T, eqb, eqb→eq, leb, leb→le}
 use lib.ListN.{getD, take}
-use Rattle.pauli.specs.Pauli.{Pauli, I, ofBits, hasX, hasZ, clash, clashes}
+use Rattle.pauli.specs.Pauli.{Pauli, I, hasX, hasZ, clash, clashes}
 use Rattle.pauli.specs.Row.{Row, eqP, sameQubits}
 use Rattle.pauli.specs.Rows.{clashesOf, commute}
-use Rattle.pauli.proofs.Bools.{and-left, and-right, and-both, beq→, beq-same}
-use Rattle.pauli.proofs.Every.{everyP, atP}
-use Rattle.pauli.proofs.RowLaws.{both-of}
+use Rattle.pauli.proofs.Bools.{and-left, and-right, and-both, beq-same}
+use Rattle.pauli.proofs.Every.{atP, paulis, at₂, same-pauli}
 
 eqP→ : (p q : Pauli) → eqP p q ≡ true → p ≡ q
-eqP→ p q e =
-    sym (both-of p)
-    ∙ ap₂ ofBits (beq→ (hasX p) (hasX q) (and-left (Bool·beq (hasX p) (hasX q)) _ e)) (beq→ (hasZ p) (hasZ q) (and-right (Bool·beq (hasX p) (hasX q)) _ e))
-    ∙ both-of q
+eqP→ p q e = same-pauli p q (subst T (sym e) tt)
 
 →eqP : (p q : Pauli) → p ≡ q → eqP p q ≡ true
 →eqP p q e = ap (eqP p) (sym e) ∙ and-both (beq-same (hasX p)) (beq-same (hasZ p))
@@ -26,11 +22,9 @@ eqP→ p q e =
 pub qubits→ : (n : ℕ) (a b : List Pauli) → sameQubits n a b ≡ true → (k : ℕ) → k < n → getD a k I ≡ getD b k I
 unfolding sameQubits
 qubits→ zero a b e k h = absurd (omega arith)
-qubits→ (suc n) a b e k h = go (λ ne. qubits→ n a b (and-left (sameQubits n a b) _ e) k (omega arith)) (ℕ-discrete k n)
-  where
-    go : ((k ≡ n → ⊥) → getD a k I ≡ getD b k I) → Dec (k ≡ n) → getD a k I ≡ getD b k I
-    go below (yes q) = subst (λ (j : ℕ). getD a j I ≡ getD b j I) (sym q) (eqP→ (getD a n I) (getD b n I) (and-right (sameQubits n a b) _ e))
-    go below (no ne) = below ne
+qubits→ (suc n) a b e k h =
+    below-more (λ (j : ℕ). getD a j I ≡ getD b j I) n (qubits→ n a b (and-left (sameQubits n a b) _ e))
+    (eqP→ (getD a n I) (getD b n I) (and-right (sameQubits n a b) _ e)) k (omega arith)
 
 pub →qubits : (n : ℕ) (a b : List Pauli) → ((k : ℕ) → k < n → getD a k I ≡ getD b k I) → sameQubits n a b ≡ true
 unfolding sameQubits
@@ -40,7 +34,7 @@ unfolding sameQubits
 -- ---- clashes: at most one a qubit, and none of a row with itself
 
 clash-le : (p q : Pauli) → clash p q ≤ 1
-clash-le p q = leb→le (clash p q) 1 (atP (λ q. leb (clash p q) 1) (atP (λ p. everyP (λ q. leb (clash p q) 1)) tt p) q)
+clash-le p q = leb→le (clash p q) 1 (at₂ paulis paulis (λ p q. leb (clash p q) 1) tt p q)
 
 pub clashes-le : (n : ℕ) (a b : List Pauli) → clashes (take n a) (take n b) ≤ n
 clashes-le zero a b = zero-le
@@ -61,7 +55,7 @@ row-with-itself n a = clashes-self (take n (a .ps))
 -- ---- two rows commute in either order
 
 clash-sym : (p q : Pauli) → clash p q ≡ clash q p
-clash-sym p q = eqb→eq (clash p q) (clash q p) (atP (λ q. eqb (clash p q) (clash q p)) (atP (λ p. everyP (λ q. eqb (clash p q) (clash q p))) tt p) q)
+clash-sym p q = eqb→eq (clash p q) (clash q p) (at₂ paulis paulis (λ p q. eqb (clash p q) (clash q p)) tt p q)
 
 clashes-sym : (a b : List Pauli) → clashes a b ≡ clashes b a
 clashes-sym [] [] = refl

@@ -13,7 +13,7 @@ use Rattle.pauli.specs.Matrix.{entry, matrix, sum, sameState, basis}
 use Rattle.pauli.proofs.GaussRing.{by-parts, ⊗-comm, ⊗-four, g1-⊗, g0-⊗, ipow-add}
 use Rattle.pauli.proofs.Lists.{length-each}
 use Rattle.pauli.proofs.Products.{sum-ext}
-use Rattle.pauli.proofs.Every.{atP, everyB, atB, eqG, eqG→eq}
+use Rattle.pauli.proofs.Every.{paulis, bits, at₃, eqG, eqG→eq}
 
 pub ⊗-g0 : (u : Gauss) → u ⊗ g0 ≡ g0
 ⊗-g0 u = ⊗-comm u g0 ∙ g0-⊗ u
@@ -80,7 +80,7 @@ one : (p : Pauli) (a b : Bool) → entry p a b ≡ ipow (turnPhase p b) ⊗ cond
 unfolding one-rule
 one p a b =
     eqG→eq (entry p a b) (ipow (turnPhase p b) ⊗ cond (Bool·beq (turn p b) a) g1 g0)
-    (atB (one-rule p a) (atB (λ a. everyB (one-rule p a)) (atP (λ p. everyB (λ a. everyB (one-rule p a))) tt p) a) b)
+    (at₃ paulis bits bits one-rule tt p a b)
 
 both : (b : Bool) (s r : List Bool) → cond b g1 g0 ⊗ basis s r ≡ cond (b && sameState s r) g1 g0
 both true s r = g1-⊗ (basis s r)

@@ -1,3 +1,4 @@
+pub mod Lists
 pub mod Pauli
 pub mod Row
 pub mod Rows

@@ -1,11 +1,11 @@
 -- RULES 4, "Products and actions": a row is its Paulis, qubit 0 first, I from the list's end on, and its phase exponent p, which means i to the p.
 -- Its product, its columns, and when two rows are the same. n is the number of qubits. Assumes nothing.
-use mathlib.Core.Bool.{Bool, true, false, cond, _&&_, Bool·beq}
+use mathlib.Core.Bool.{Bool, true, cond, _&&_, Bool·beq}
 use mathlib.Core.List.{List, [], _∷_}
 use Prim.Native.Nat.{ℕ, zero, suc, _+_, _-_, _%_}
 use lib.Dec.{eqb, ltb}
 use lib.ListN.{getD, take}
-use Rattle.pauli.specs.Pauli.{Pauli, I, X, Y, Z, hasX, hasZ, _·_, phases}
+use Rattle.pauli.specs.Pauli.{Pauli, I, hasX, hasZ, _·_, phases}
 
 pub record Row : Type 0 where
   pub ps : List Pauli

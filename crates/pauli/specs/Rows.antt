@@ -1,11 +1,12 @@
 -- RULES 4, "Products and actions", over the rows of a set: a set is the row at each number. Phase, commutation, central rows, counts, one qubit
 -- set, and the action on a basis state. n is the number of qubits, m the number of rows. Assumes nothing.
-use mathlib.Core.Bool.{Bool, true, false, cond, _&&_}
+use mathlib.Core.Bool.{Bool, cond}
 use mathlib.Core.List.{List, [], _∷_}
-use Prim.Native.Nat.{ℕ, zero, suc, _+_, _-_, _%_}
+use Prim.Native.Nat.{ℕ, suc, _+_, _-_, _%_}
 use lib.Dec.{eqb}
-use lib.ListN.{getD, take, set}
-use Rattle.pauli.specs.Pauli.{Pauli, I, X, Y, Z, phases, act, actPhase, clashes}
+use lib.ListN.{take, set}
+pub use Rattle.pauli.specs.Lists.{everyBelow}
+use Rattle.pauli.specs.Pauli.{Pauli, I, X, Y, Z, act, actPhase, clashes}
 use Rattle.pauli.specs.Row.{Row, expo, eqP}
 
 -- the exponent of the product of two rows, mod 4, without the rows' own
@@ -19,11 +20,6 @@ clashesOf n a b = clashes (take n (a .ps)) (take n (b .ps))
 -- two rows commute exactly when it is even
 unfoldable pub commute : ℕ → Row → Row → Bool
 commute n a b = eqb (clashesOf n a b % 2) 0
-
--- a test at each number below m
-unfoldable pub everyBelow : ℕ → (ℕ → Bool) → Bool
-everyBelow zero f = true
-everyBelow (suc m) f = everyBelow m f && f m
 
 -- a row is central when it commutes with every row
 unfoldable pub central : ℕ → ℕ → (ℕ → Row) → ℕ → Bool
