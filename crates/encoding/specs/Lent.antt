@@ -3,7 +3,7 @@ use mathlib.Core.List.{List}
 use Prim.Native.Nat.{ℕ}
 use denote.Ref.{RefT, now}
 use denote.Triple.Both.{Both}
-use Rattle.encoding.specs.Set.{Mem, mem, bare}
+use Rattle.encoding.specs.Set.{Mem, memOf, mem, bare}
 
 abbrev Lent : Type 0
 Lent = RefT (List ℕ)
@@ -25,3 +25,13 @@ bitsBefore m x z = bitsLent m (x .entry) (z .entry)
 
 abbrev pub bitsAfter : {A B : Type 0} → ℕ → Both A Lent → Both B Lent → Mem
 bitsAfter m x z = bitsLent m (x .exit) (z .exit)
+
+-- the same inside, where m is a number
+abbrev pub lentOf : ℕ → Lent → Lent → Lent → Mem
+lentOf m x z p = memOf m (now x) (now z) (now p)
+
+abbrev pub beforeOf : {A B C : Type 0} → ℕ → Both Lent A → Both Lent B → Both Lent C → Mem
+beforeOf m x z p = lentOf m (x .entry) (z .entry) (p .entry)
+
+abbrev pub afterOf : {A B C : Type 0} → ℕ → Both A Lent → Both B Lent → Both C Lent → Mem
+afterOf m x z p = lentOf m (x .exit) (z .exit) (p .exit)

@@ -1,6 +1,6 @@
 -- The refusals of a check: the first line of its parts by rank, and what nothing refused leaves. 15 comes last of what `reduce_fault` gives, so that the
 -- smaller of its number and the claim's is the earlier. Assumes nothing.
-use mathlib.Core.Path.{_≡_, refl, sym, ap, ap₂, _∙_}
+use mathlib.Core.Path.{_≡_, refl, sym, ap, ap₂, _∙_, subst}
 use mathlib.Core.Bool.{Bool, true, false, cond, not}
 use mathlib.Core.List.{List, [], _∷_}
 use Prim.Native.Nat.{ℕ, zero, suc, _+_, _≤_}
@@ -11,7 +11,7 @@ use lib.Dec.{eqb, ltb}
 use lib.ListN.{length}
 use Rattle.encoding.specs.Limits.{wordsOf}
 use Rattle.encoding.specs.Words.{odd}
-use Rattle.encoding.specs.Set.{Mem, count, Valid}
+use Rattle.encoding.specs.Set.{Mem, memOf, mem, count, Valid}
 use Rattle.encoding.specs.Refusals.{faultFrom, fault, joined, least, setTests, leftOr, differentRows}
 use Rattle.encoding.proofs.Faults.{joined-fault, both-parts, least-none, least-more, orElse, or-none, different-is, same-rows, kept}
 use Rattle.terms.specs.Ranks.{TableLine, line, byRank}
@@ -124,3 +124,7 @@ module _ (T : Task) (L : Claim) {a b s f : ℕ} (pa : a ≡ reduceFault (T .n) (
           rows = j .rows ∙ ap (λ k. leftOr k (T .start) (workingFor T L)) (sym n);
           passed = λ _. check-passed z;
         }
+
+-- what the worker left, as the call sees it: m is the number of the bytes that are lent
+pub judged-lent : {T : Task} {L : Claim} {r : Verdict} {m : ℕ} {xs zs es : List ℕ} → length es ≡ m → Judged T L r (memOf m xs zs es) → Judged T L r (mem xs zs es)
+judged-lent {T} {L} {r} {m} {xs} {zs} {es} l = subst (λ k. Judged T L r (memOf k xs zs es)) (sym l)

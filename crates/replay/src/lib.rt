@@ -3,7 +3,7 @@ ghost use mathlib.Core.Path.{_≡_};
 ghost use mathlib.Core.Bool.{not};
 ghost use mathlib.Core.List.{[], _∷_};
 ghost use lib.Dec.{eqb};
-ghost use Rattle.encoding.specs.Lent.{lent, before, after};
+ghost use Rattle.encoding.specs.Lent.{lent, before, after, lentOf, beforeOf, afterOf};
 ghost use Rattle.encoding.specs.Refusals.{fault};
 ghost use Rattle.terms.specs.Ranks.{byRank, line};
 ghost use Rattle.replay.specs.Check.{task, claim, claimTests, oddLog, ClaimPassed, Passed, given, verdictOn, Checked};
@@ -50,6 +50,7 @@ fn log_fault(earlier: u8, units: usize) -> u8
 // The verdict on rows that were replayed: the first that differs from what is claimed, else whether they are in reduced form.
 fn compare(
     n: usize,
+    m: usize,
     x: &[u64],
     z: &[u64],
     phases: &[u8],
@@ -60,13 +61,13 @@ fn compare(
     cz: &[u64],
     cphases: &[u8],
 ) -> Verdict
-    requires { ⌜ Passed (task n (lent x z phases) (now order) (now listed) (now extra))
+    requires { ⌜ Passed (task n (lentOf m x z phases) (now order) (now listed) (now extra))
         (lent cx cz cphases) ⌝ }
-    ensures { λ r. ⌜ r ≡ given (verdictOn (task n (before x z phases) (now (order .entry)) (now (listed .entry)) (now (extra .entry)))
+    ensures { λ r. ⌜ r ≡ given (verdictOn (task n (beforeOf m x z phases) (now (order .entry)) (now (listed .entry)) (now (extra .entry)))
         (claim [] (before cx cz cphases))) ⌝ }
 {
-    let d = rows::first_diff(n, x, z, phases, cx, cz, cphases);
-    if d < phases.len() {
+    let d = rows::first_diff(n, m, x, z, phases, cx, cz, cphases);
+    if d < m {
         return Verdict::Differs(d);
     }
     if form::is_reduced(n, x, z, order, listed, extra) {
@@ -78,6 +79,7 @@ fn compare(
 // The verdict on a claim that nothing refuses: all entries are tested, then all are replayed, then the rows are compared.
 fn judge(
     n: usize,
+    m: usize,
     x: &mut [u64],
     z: &mut [u64],
     phases: &mut [u8],
@@ -89,18 +91,18 @@ fn judge(
     cz: &[u64],
     cphases: &[u8],
 ) -> Verdict
-    requires { ⌜ Passed (task n (lent x z phases) (now order) (now listed) (now extra))
+    requires { ⌜ Passed (task n (lentOf m x z phases) (now order) (now listed) (now extra))
         (lent cx cz cphases) ⌝ }
-    ensures { λ r. ⌜ Judged (task n (before x z phases) (now (order .entry)) (now (listed .entry)) (now (extra .entry)))
-        (claim (now (log .entry)) (before cx cz cphases)) r (after x z phases) ⌝ }
+    ensures { λ r. ⌜ Judged (task n (beforeOf m x z phases) (now (order .entry)) (now (listed .entry)) (now (extra .entry)))
+        (claim (now (log .entry)) (before cx cz cphases)) r (afterOf m x z phases) ⌝ }
 {
     let h = log.len() / 2;
     let b = entries::first_bad(log, listed, extra);
     if b < h {
         return Verdict::BadEntry(b);
     }
-    rows::redo(n, x, z, phases, log, h);
-    compare(n, x, z, phases, order, listed, extra, cx, cz, cphases)
+    rows::redo(n, m, x, z, phases, log, h);
+    compare(n, m, x, z, phases, order, listed, extra, cx, cz, cphases)
 }
 
 // The replay checker. x, z and phases come in as the starting rows and end as the replayed ones; at a refusal or a bad entry they are unchanged.
@@ -126,5 +128,18 @@ pub fn check(
     if f != 0 {
         return Verdict::Refused(f);
     }
-    judge(n, x, z, phases, order, listed, extra, log, cx, cz, cphases)
+    judge(
+        n,
+        phases.len(),
+        x,
+        z,
+        phases,
+        order,
+        listed,
+        extra,
+        log,
+        cx,
+        cz,
+        cphases,
+    )
 }

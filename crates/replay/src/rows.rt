@@ -6,7 +6,7 @@ ghost use lib.ListN.{length, take};
 ghost use Rattle.encoding.specs.Limits.{wordsOf};
 ghost use Rattle.pauli.specs.Row.{sameRow};
 ghost use Rattle.encoding.specs.Set.{row, rowsOf, Valid};
-ghost use Rattle.encoding.specs.Lent.{lent, before, after};
+ghost use Rattle.encoding.specs.Lent.{lent, before, lentOf, beforeOf, afterOf};
 ghost use Rattle.reduction.specs.Log.{pairs};
 ghost use Rattle.reduction.specs.Checker.{firstDiff};
 ghost use Rattle.replay.specs.Steps.{redone, placeOf};
@@ -14,17 +14,25 @@ use pauli::RowNumber;
 use terms::rows::imul_unchecked;
 
 // The first k entries are done to the rows, one after another.
-pub(crate) fn redo(n: usize, x: &mut [u64], z: &mut [u64], phases: &mut [u8], log: &[u16], k: usize)
+pub(crate) fn redo(
+    n: usize,
+    m: usize,
+    x: &mut [u64],
+    z: &mut [u64],
+    phases: &mut [u8],
+    log: &[u16],
+    k: usize,
+)
     requires { ⌜ k ≤ length (now log) / 2 ⌝ }
-    ensures { λ _. ⌜ after x z phases
-        ≡ redone n (take k (pairs (now (log .entry)))) (before x z phases) ⌝ }
+    ensures { λ _. ⌜ afterOf m x z phases
+        ≡ redone n (take k (pairs (now (log .entry)))) (beforeOf m x z phases) ⌝ }
 {
     let mut i = 0;
     while i < k {
         let j = i + i;
         let a = RowNumber(log[j] as usize);
         let b = RowNumber(log[j + 1] as usize);
-        imul_unchecked(n, x, z, phases, a, b);
+        imul_unchecked(n, m, x, z, phases, a, b);
         i += 1;
     }
 }
@@ -50,6 +58,7 @@ fn same_words(w: usize, x: &[u64], y: &[u64], k: usize) -> bool
 // Whether rows k of two sets are the same, in bits and phase.
 fn same_row(
     n: usize,
+    m: usize,
     x: &[u64],
     z: &[u64],
     phases: &[u8],
@@ -58,10 +67,10 @@ fn same_row(
     cphases: &[u8],
     k: usize,
 ) -> bool
-    requires { ⌜ Valid n (wordsOf n) (lent x z phases) ⌝ }
+    requires { ⌜ Valid n (wordsOf n) (lentOf m x z phases) ⌝ }
     requires { ⌜ Valid n (wordsOf n) (lent cx cz cphases) ⌝ }
-    requires { ⌜ (length (now phases) ≡ length (now cphases)) × (k < length (now phases)) ⌝ }
-    ensures { λ r. ⌜ r ≡ sameRow n (rowsOf n (before x z phases) k)
+    requires { ⌜ (m ≡ length (now cphases)) × (k < m) ⌝ }
+    ensures { λ r. ⌜ r ≡ sameRow n (rowsOf n (beforeOf m x z phases) k)
         (rowsOf n (before cx cz cphases) k) ⌝ }
 {
     let w = encoding::words(n);
@@ -79,6 +88,7 @@ fn same_row(
 // The first row that differs; the number of rows if there is none.
 pub(crate) fn first_diff(
     n: usize,
+    m: usize,
     x: &[u64],
     z: &[u64],
     phases: &[u8],
@@ -86,15 +96,15 @@ pub(crate) fn first_diff(
     cz: &[u64],
     cphases: &[u8],
 ) -> usize
-    requires { ⌜ Valid n (wordsOf n) (lent x z phases) ⌝ }
+    requires { ⌜ Valid n (wordsOf n) (lentOf m x z phases) ⌝ }
     requires { ⌜ Valid n (wordsOf n) (lent cx cz cphases) ⌝ }
-    requires { ⌜ length (now phases) ≡ length (now cphases) ⌝ }
-    ensures { λ r. ⌜ placeOf (length (now (phases .entry))) r ≡ firstDiff (sameRow n)
-        (rowsOf n (before x z phases)) (rowsOf n (before cx cz cphases)) 0 (length (now (phases .entry))) ⌝ }
+    requires { ⌜ m ≡ length (now cphases) ⌝ }
+    ensures { λ r. ⌜ placeOf m r ≡ firstDiff (sameRow n)
+        (rowsOf n (beforeOf m x z phases)) (rowsOf n (before cx cz cphases)) 0 m ⌝ }
 {
     let mut i = 0;
-    while i < phases.len() {
-        if !same_row(n, x, z, phases, cx, cz, cphases, i) {
+    while i < m {
+        if !same_row(n, m, x, z, phases, cx, cz, cphases, i) {
             return i;
         }
         i += 1;

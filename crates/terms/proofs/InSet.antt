@@ -15,7 +15,7 @@ use lib.ListN.{length, getD, set}
 use Rattle.pauli.specs.Pauli.{Pauli, hasX, hasZ, mul, phases, clashes}
 use Rattle.encoding.specs.Limits.{maxQubits, maxRows, wordsOf}
 use Rattle.encoding.specs.Words.{unpack, pack}
-use Rattle.encoding.specs.Set.{part, row, Mem, memOf, count, phaseUnits, exponentAt, withExponent, Sound}
+use Rattle.encoding.specs.Set.{part, row, Mem, memOf, mem, count, phaseUnits, exponentAt, withExponent, Sound}
 use Rattle.encoding.specs.Refusals.{faultFrom, fault, outTests}
 use Rattle.encoding.proofs.Sets.{shape-of}
 use Rattle.encoding.proofs.Parts.{row-end, row-long}
@@ -151,6 +151,13 @@ module _ (n a b : ℕ) (M : Mem) (e : fault (outTests n (count M) M) ≡ 0) (ha 
         exponents = ap (withExponent (M .es) a) (omega arith);
         number = refl;
       })
+
+-- the same where m is the number of the bytes that are lent
+pub shape-to : (n m : ℕ) (xs zs es : List ℕ) → fault (outTests n m (mem xs zs es)) ≡ 0 → fault (outTests n m (memOf m xs zs es)) ≡ 0
+shape-to n m xs zs es e = subst (λ k. fault (outTests n m (memOf k xs zs es)) ≡ 0) (shape-of n m (mem xs zs es) e .rows) e
+
+pub shape-from : (n m : ℕ) (xs zs es : List ℕ) → fault (outTests n m (memOf m xs zs es)) ≡ 0 → fault (outTests n m (mem xs zs es)) ≡ 0
+shape-from n m xs zs es e = subst (λ k. fault (outTests n m (memOf k xs zs es)) ≡ 0) (sym (shape-of n m (memOf m xs zs es) e .e-long)) e
 
 -- a row set within the limits has the shape
 pub shape-is : {n : ℕ} {M : Mem} → Sound n M → fault (outTests n (count M) M) ≡ 0

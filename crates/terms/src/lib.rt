@@ -3,7 +3,7 @@ ghost use mathlib.Core.Path.{_≡_};
 ghost use Prim.Native.Nat.{_+_, _≤_};
 ghost use lib.ListN.{length};
 ghost use Rattle.encoding.specs.Set.{Sound};
-ghost use Rattle.encoding.specs.Lent.{lent, before, after};
+ghost use Rattle.encoding.specs.Lent.{before, after, lentOf, beforeOf, afterOf};
 ghost use Rattle.encoding.specs.Limits.{maxQubits, maxRows};
 ghost use Rattle.encoding.specs.Refusals.{fault, rowsTests};
 ghost use Rattle.terms.specs.Refused.{reduceFault, Reducible};
@@ -58,7 +58,7 @@ pub fn imul(
     if f != 0 {
         return Clashes::Refused(f);
     }
-    Clashes::Number(rows::imul_unchecked(n, x, z, phases, a, b))
+    Clashes::Number(rows::imul_unchecked(n, phases.len(), x, z, phases, a, b))
 }
 
 // The first line of the table, by rank, that fits a set, an order and two lists, or 0. The set's lines come first, so the lists are looked at within
@@ -85,6 +85,7 @@ pub fn reduce_fault(
 // The reduction of a set that the refusals passed.
 fn reduced(
     n: usize,
+    m: usize,
     x: &mut [u64],
     z: &mut [u64],
     phases: &mut [u8],
@@ -93,11 +94,12 @@ fn reduced(
     extra: &[u16],
     log: &mut [u16],
 ) -> Canonicalized
-    requires { ⌜ ListsIn n (now order) (now listed) (now extra) (lent x z phases) ⌝ }
-    ensures { λ r. ⌜ Leaves n 0 (outcomeOf n (now (order .entry)) (now (listed .entry)) (now (extra .entry)) (before x z phases) (now (log .entry)))
-        (before x z phases) (now (log .entry)) (after x z phases) (now (log .exit)) r ⌝ }
+    requires { ⌜ ListsIn n (now order) (now listed) (now extra) (lentOf m x z phases) ⌝ }
+    ensures { λ r. ⌜ Leaves n 0
+        (outcomeOf n (now (order .entry)) (now (listed .entry)) (now (extra .entry)) (beforeOf m x z phases) (now (log .entry)))
+        (beforeOf m x z phases) (now (log .entry)) (afterOf m x z phases) (now (log .exit)) r ⌝ }
 {
-    let s = reduce::columns(n, x, z, phases, log, order, listed, extra);
+    let s = reduce::columns(n, m, x, z, phases, log, order, listed, extra);
     if s.full {
         return Canonicalized::Full(log.len() / 2);
     }
@@ -106,7 +108,7 @@ fn reduced(
     Canonicalized::Done { entries, t }
 }
 
-// The set is reduced by the order of columns: pivots are found among the listed rows, and these and the extra rows are cleared. Each product is logged.
+// The set is reduced by the order of columns: pivots are found among the listed rows, and these and the extra rows are cleared. Products are logged.
 pub fn canonicalize(
     n: usize,
     x: &mut [u64],
@@ -124,7 +126,7 @@ pub fn canonicalize(
     if f != 0 {
         return Canonicalized::Refused(f);
     }
-    reduced(n, x, z, phases, order, listed, extra, log)
+    reduced(n, phases.len(), x, z, phases, order, listed, extra, log)
 }
 
 // The numbers from 0 on.
@@ -143,6 +145,7 @@ fn count_up(list: &mut [u16])
 // All columns and all rows, from lists of the numbers up to the limits.
 fn reduced_by(
     n: usize,
+    m: usize,
     x: &mut [u64],
     z: &mut [u64],
     phases: &mut [u8],
@@ -150,15 +153,15 @@ fn reduced_by(
     rows: &[u16],
     log: &mut [u16],
 ) -> Canonicalized
-    requires { ⌜ Sound n (lent x z phases) ⌝ }
+    requires { ⌜ Sound n (lentOf m x z phases) ⌝ }
     requires { ⌜ (now columns ≡ upTo (maxQubits + maxQubits)) × (now rows ≡ upTo maxRows) ⌝ }
-    ensures { λ r. ⌜ Leaves n 0 (wholeOutcome n (before x z phases) (now (log .entry)))
-        (before x z phases) (now (log .entry)) (after x z phases) (now (log .exit)) r ⌝ }
+    ensures { λ r. ⌜ Leaves n 0 (wholeOutcome n (beforeOf m x z phases) (now (log .entry)))
+        (beforeOf m x z phases) (now (log .entry)) (afterOf m x z phases) (now (log .exit)) r ⌝ }
 {
     let k = n + n;
-    let m = phases.len();
     reduced(
         n,
+        m,
         x,
         z,
         phases,
@@ -172,20 +175,21 @@ fn reduced_by(
 // All columns, all rows listed, no extra rows.
 fn reduced_all(
     n: usize,
+    m: usize,
     x: &mut [u64],
     z: &mut [u64],
     phases: &mut [u8],
     log: &mut [u16],
 ) -> Canonicalized
-    requires { ⌜ Sound n (lent x z phases) ⌝ }
-    ensures { λ r. ⌜ Leaves n 0 (wholeOutcome n (before x z phases) (now (log .entry)))
-        (before x z phases) (now (log .entry)) (after x z phases) (now (log .exit)) r ⌝ }
+    requires { ⌜ Sound n (lentOf m x z phases) ⌝ }
+    ensures { λ r. ⌜ Leaves n 0 (wholeOutcome n (beforeOf m x z phases) (now (log .entry)))
+        (beforeOf m x z phases) (now (log .entry)) (afterOf m x z phases) (now (log .exit)) r ⌝ }
 {
     let mut columns = [0u16; MAX_COLUMNS];
     count_up(&mut columns);
     let mut rows = [0u16; MAX_ROWS];
     count_up(&mut rows);
-    reduced_by(n, x, z, phases, &columns, &rows, log)
+    reduced_by(n, m, x, z, phases, &columns, &rows, log)
 }
 
 // The whole set is reduced: X of each qubit, then Z, over all rows.
@@ -202,5 +206,5 @@ pub fn canonicalize_all(
     if f != 0 {
         return Canonicalized::Refused(f);
     }
-    reduced_all(n, x, z, phases, log)
+    reduced_all(n, phases.len(), x, z, phases, log)
 }

@@ -5,7 +5,7 @@ ghost use Prim.Native.Nat.{_+_, _≤_, _<_};
 ghost use lib.ListN.{length};
 ghost use Rattle.pauli.specs.Row.{mulRow, bitRow};
 ghost use Rattle.encoding.specs.Set.{Sound};
-ghost use Rattle.encoding.specs.Lent.{lent, before, after};
+ghost use Rattle.encoding.specs.Lent.{lentOf, beforeOf, afterOf};
 ghost use Rattle.reduction.specs.Log.{capacity};
 ghost use Rattle.reduction.specs.Twin.{through, multiplyC, turnC, leadC, pivotC, columnC};
 ghost use Rattle.terms.specs.Work.{Below, Ready, start, Does};
@@ -24,6 +24,7 @@ pub struct Progress {
 // Row a is multiplied by row b, and (a, b) is logged, if the entry fits.
 fn put(
     n: usize,
+    m: usize,
     x: &mut [u64],
     z: &mut [u64],
     p: &mut [u8],
@@ -32,9 +33,9 @@ fn put(
     a: u16,
     b: u16,
 ) -> Progress
-    requires { ⌜ Ready n (lent x z p) (now log) s ⌝ }
-    requires { ⌜ (a < length (now p)) × (b < length (now p)) ⌝ }
-    ensures { λ r. ⌜ Does n (multiplyC (mulRow n) (capacity (now (log .entry))) a b) (before x z p) (now (log .entry)) s (after x z p)
+    requires { ⌜ Ready n (lentOf m x z p) (now log) s ⌝ }
+    requires { ⌜ (a < m) × (b < m) ⌝ }
+    ensures { λ r. ⌜ Does n (multiplyC (mulRow n) (capacity (now (log .entry))) a b) (beforeOf m x z p) (now (log .entry)) s (afterOf m x z p)
         (now (log .exit)) r ⌝ }
 {
     let k = s.entries;
@@ -46,7 +47,7 @@ fn put(
             t,
         };
     }
-    imul_unchecked(n, x, z, p, RowNumber(a as usize), RowNumber(b as usize));
+    imul_unchecked(n, m, x, z, p, RowNumber(a as usize), RowNumber(b as usize));
     let h = k + k;
     log[h] = a;
     log[h + 1] = b;
@@ -60,6 +61,7 @@ fn put(
 // Row k, if it is another than the pivot and has column c set, is multiplied by the pivot.
 fn turn(
     n: usize,
+    m: usize,
     x: &mut [u64],
     z: &mut [u64],
     p: &mut [u8],
@@ -69,16 +71,16 @@ fn turn(
     pivot: u16,
     k: u16,
 ) -> Progress
-    requires { ⌜ Ready n (lent x z p) (now log) s ⌝ }
-    requires { ⌜ (c < n + n) × (pivot < length (now p)) × (k < length (now p)) ⌝ }
-    ensures { λ r. ⌜ Does n (turnC (bitRow n) (mulRow n) (capacity (now (log .entry))) c pivot k) (before x z p) (now (log .entry)) s
-        (after x z p) (now (log .exit)) r ⌝ }
+    requires { ⌜ Ready n (lentOf m x z p) (now log) s ⌝ }
+    requires { ⌜ (c < n + n) × (pivot < m) × (k < m) ⌝ }
+    ensures { λ r. ⌜ Does n (turnC (bitRow n) (mulRow n) (capacity (now (log .entry))) c pivot k) (beforeOf m x z p) (now (log .entry)) s
+        (afterOf m x z p) (now (log .exit)) r ⌝ }
 {
     if k == pivot {
         return s;
     }
     if get_bit(n, x, z, RowNumber(k as usize), c) {
-        return put(n, x, z, p, log, s, k, pivot);
+        return put(n, m, x, z, p, log, s, k, pivot);
     }
     s
 }
@@ -86,6 +88,7 @@ fn turn(
 // Each row of the list other than the pivot with column c set is multiplied by the pivot, as long as entries fit.
 fn clear(
     n: usize,
+    m: usize,
     x: &mut [u64],
     z: &mut [u64],
     p: &mut [u8],
@@ -95,15 +98,15 @@ fn clear(
     c: usize,
     pivot: u16,
 ) -> Progress
-    requires { ⌜ Ready n (lent x z p) (now log) s ⌝ }
-    requires { ⌜ (c < n + n) × (pivot < length (now p)) × Below (length (now p)) (now list) ⌝ }
-    ensures { λ r. ⌜ Does n (through (turnC (bitRow n) (mulRow n) (capacity (now (log .entry))) c pivot) (now (list .entry))) (before x z p)
-        (now (log .entry)) s (after x z p) (now (log .exit)) r ⌝ }
+    requires { ⌜ Ready n (lentOf m x z p) (now log) s ⌝ }
+    requires { ⌜ (c < n + n) × (pivot < m) × Below m (now list) ⌝ }
+    ensures { λ r. ⌜ Does n (through (turnC (bitRow n) (mulRow n) (capacity (now (log .entry))) c pivot) (now (list .entry))) (beforeOf m x z p)
+        (now (log .entry)) s (afterOf m x z p) (now (log .exit)) r ⌝ }
 {
     let mut r = s;
     let mut i = 0;
     while i < list.len() {
-        r = turn(n, x, z, p, log, r, c, pivot, list[i]);
+        r = turn(n, m, x, z, p, log, r, c, pivot, list[i]);
         if r.full {
             return r;
         }
@@ -115,6 +118,7 @@ fn clear(
 // The pivot is multiplied by the row found, if that is another.
 fn lead(
     n: usize,
+    m: usize,
     x: &mut [u64],
     z: &mut [u64],
     p: &mut [u8],
@@ -123,20 +127,21 @@ fn lead(
     pivot: u16,
     found: u16,
 ) -> Progress
-    requires { ⌜ Ready n (lent x z p) (now log) s ⌝ }
-    requires { ⌜ (pivot < length (now p)) × (found < length (now p)) ⌝ }
-    ensures { λ r. ⌜ Does n (leadC (bitRow n) (mulRow n) (capacity (now (log .entry))) pivot found) (before x z p) (now (log .entry)) s
-        (after x z p) (now (log .exit)) r ⌝ }
+    requires { ⌜ Ready n (lentOf m x z p) (now log) s ⌝ }
+    requires { ⌜ (pivot < m) × (found < m) ⌝ }
+    ensures { λ r. ⌜ Does n (leadC (bitRow n) (mulRow n) (capacity (now (log .entry))) pivot found) (beforeOf m x z p) (now (log .entry)) s
+        (afterOf m x z p) (now (log .exit)) r ⌝ }
 {
     if found == pivot {
         return s;
     }
-    put(n, x, z, p, log, s, pivot, found)
+    put(n, m, x, z, p, log, s, pivot, found)
 }
 
 // The listed and then the extra rows are cleared.
 fn clear_both(
     n: usize,
+    m: usize,
     x: &mut [u64],
     z: &mut [u64],
     p: &mut [u8],
@@ -147,21 +152,22 @@ fn clear_both(
     c: usize,
     pivot: u16,
 ) -> Progress
-    requires { ⌜ Ready n (lent x z p) (now log) s ⌝ }
-    requires { ⌜ (c < n + n) × (pivot < length (now p)) × Below (length (now p)) (now listed) × Below (length (now p)) (now extra) ⌝ }
+    requires { ⌜ Ready n (lentOf m x z p) (now log) s ⌝ }
+    requires { ⌜ (c < n + n) × (pivot < m) × Below m (now listed) × Below m (now extra) ⌝ }
     ensures { λ r. ⌜ Does n (through (turnC (bitRow n) (mulRow n) (capacity (now (log .entry))) c pivot)
-        (now (listed .entry) ++ now (extra .entry))) (before x z p) (now (log .entry)) s (after x z p) (now (log .exit)) r ⌝ }
+        (now (listed .entry) ++ now (extra .entry))) (beforeOf m x z p) (now (log .entry)) s (afterOf m x z p) (now (log .exit)) r ⌝ }
 {
-    let r = clear(n, x, z, p, log, listed, s, c, pivot);
+    let r = clear(n, m, x, z, p, log, listed, s, c, pivot);
     if r.full {
         return r;
     }
-    clear(n, x, z, p, log, extra, r, c, pivot)
+    clear(n, m, x, z, p, log, extra, r, c, pivot)
 }
 
 // A pivot and the row found: the pivot is multiplied by it, if it is another, and the other rows are cleared.
 fn pivot_by(
     n: usize,
+    m: usize,
     x: &mut [u64],
     z: &mut [u64],
     p: &mut [u8],
@@ -173,22 +179,23 @@ fn pivot_by(
     pivot: u16,
     found: u16,
 ) -> Progress
-    requires { ⌜ Ready n (lent x z p) (now log) s ⌝ }
-    requires { ⌜ (c < n + n) × (pivot < length (now p)) × (found < length (now p)) × Below (length (now p)) (now listed)
-        × Below (length (now p)) (now extra) ⌝ }
+    requires { ⌜ Ready n (lentOf m x z p) (now log) s ⌝ }
+    requires { ⌜ (c < n + n) × (pivot < m) × (found < m) × Below m (now listed)
+        × Below m (now extra) ⌝ }
     ensures { λ r. ⌜ Does n (pivotC (bitRow n) (mulRow n) (capacity (now (log .entry)))
-        (now (listed .entry) ++ now (extra .entry)) c pivot found) (before x z p) (now (log .entry)) s (after x z p) (now (log .exit)) r ⌝ }
+        (now (listed .entry) ++ now (extra .entry)) c pivot found) (beforeOf m x z p) (now (log .entry)) s (afterOf m x z p) (now (log .exit)) r ⌝ }
 {
-    let r = lead(n, x, z, p, log, s, pivot, found);
+    let r = lead(n, m, x, z, p, log, s, pivot, found);
     if r.full {
         return r;
     }
-    clear_both(n, x, z, p, log, listed, extra, r, c, pivot)
+    clear_both(n, m, x, z, p, log, listed, extra, r, c, pivot)
 }
 
 // One column of the order.
 fn column(
     n: usize,
+    m: usize,
     x: &mut [u64],
     z: &mut [u64],
     p: &mut [u8],
@@ -198,18 +205,31 @@ fn column(
     s: Progress,
     c: usize,
 ) -> Progress
-    requires { ⌜ Ready n (lent x z p) (now log) s ⌝ }
-    requires { ⌜ (c < n + n) × (s .t ≤ length (now listed)) × Below (length (now p)) (now listed) × Below (length (now p)) (now extra) ⌝ }
+    requires { ⌜ Ready n (lentOf m x z p) (now log) s ⌝ }
+    requires { ⌜ (c < n + n) × (s .t ≤ length (now listed)) × Below m (now listed) × Below m (now extra) ⌝ }
     ensures { λ r. ⌜ r .t ≤ length (now (listed .entry)) ⌝ }
     ensures { λ r. ⌜ Does n (columnC (bitRow n) (mulRow n) (capacity (now (log .entry))) (now (listed .entry)) (now (extra .entry)) c)
-        (before x z p) (now (log .entry)) s (after x z p) (now (log .exit)) r ⌝ }
+        (beforeOf m x z p) (now (log .entry)) s (afterOf m x z p) (now (log .exit)) r ⌝ }
 {
     let t = s.t;
     let f = find(n, x, z, listed, t, c);
     if listed.len() <= f {
         return s;
     }
-    let r = pivot_by(n, x, z, p, log, listed, extra, s, c, listed[t], listed[f]);
+    let r = pivot_by(
+        n,
+        m,
+        x,
+        z,
+        p,
+        log,
+        listed,
+        extra,
+        s,
+        c,
+        listed[t],
+        listed[f],
+    );
     let k = r.entries;
     if r.full {
         return Progress {
@@ -228,6 +248,7 @@ fn column(
 // The columns of the order, one after another, from an empty log on.
 pub(crate) fn columns(
     n: usize,
+    m: usize,
     x: &mut [u64],
     z: &mut [u64],
     p: &mut [u8],
@@ -236,10 +257,10 @@ pub(crate) fn columns(
     listed: &[u16],
     extra: &[u16],
 ) -> Progress
-    requires { ⌜ Sound n (lent x z p) ⌝ }
-    requires { ⌜ Below (n + n) (now order) × Below (length (now p)) (now listed) × Below (length (now p)) (now extra) ⌝ }
+    requires { ⌜ Sound n (lentOf m x z p) ⌝ }
+    requires { ⌜ Below (n + n) (now order) × Below m (now listed) × Below m (now extra) ⌝ }
     ensures { λ r. ⌜ Does n (through (columnC (bitRow n) (mulRow n) (capacity (now (log .entry))) (now (listed .entry)) (now (extra .entry)))
-        (now (order .entry))) (before x z p) (now (log .entry)) start (after x z p) (now (log .exit)) r ⌝ }
+        (now (order .entry))) (beforeOf m x z p) (now (log .entry)) start (afterOf m x z p) (now (log .exit)) r ⌝ }
 {
     let mut r = Progress {
         full: false,
@@ -249,7 +270,7 @@ pub(crate) fn columns(
     let mut i = 0;
     while i < order.len() {
         let c = order[i] as usize;
-        r = column(n, x, z, p, log, listed, extra, r, c);
+        r = column(n, m, x, z, p, log, listed, extra, r, c);
         if r.full {
             return r;
         }

@@ -5,7 +5,7 @@ ghost use lib.ListN.{drop};
 ghost use Rattle.encoding.specs.Limits.{maxRows, maxWords};
 ghost use Rattle.encoding.specs.Words.{bitAt};
 ghost use Rattle.encoding.specs.Set.{row, exponentAt, withExponent};
-ghost use Rattle.encoding.specs.Lent.{lent, before, after};
+ghost use Rattle.encoding.specs.Lent.{lentOf, beforeOf, afterOf};
 ghost use Rattle.terms.specs.Leaves.{bitIn, firstPlace, mulIn, clashesIn, InRows, RowsMultiplied};
 use encoding::MAX_QUBITS;
 use encoding::MAX_ROWS;
@@ -66,9 +66,17 @@ fn add_exponent(p: &mut [u8], a: RowNumber, b: RowNumber, e: ComplexSign)
 }
 
 // Row a is multiplied by row b; a and b may be the same. The number of clashes is returned.
-fn mul_rows(w: usize, x: &mut [u64], z: &mut [u64], p: &mut [u8], a: RowNumber, b: RowNumber) -> u16
-    requires { ⌜ InRows w (a .0) (b .0) (lent x z p) ⌝ }
-    ensures { λ c. ⌜ RowsMultiplied w (a .0) (b .0) (before x z p) (after x z p) c ⌝ }
+fn mul_rows(
+    w: usize,
+    m: usize,
+    x: &mut [u64],
+    z: &mut [u64],
+    p: &mut [u8],
+    a: RowNumber,
+    b: RowNumber,
+) -> u16
+    requires { ⌜ InRows w (a .0) (b .0) (lentOf m x z p) ⌝ }
+    ensures { λ c. ⌜ RowsMultiplied w (a .0) (b .0) (beforeOf m x z p) (afterOf m x z p) c ⌝ }
 {
     let f = products::imul_op_op(x, z, a.0 * w, b.0 * w, w);
     add_exponent(p, a, b, f.phase);
@@ -79,16 +87,16 @@ fn mul_rows(w: usize, x: &mut [u64], z: &mut [u64], p: &mut [u8], a: RowNumber, 
 // is not there, nothing is done, and 0 is returned.
 pub fn imul_unchecked(
     n: usize,
+    m: usize,
     x: &mut [u64],
     z: &mut [u64],
     p: &mut [u8],
     a: RowNumber,
     b: RowNumber,
 ) -> u16
-    ensures { λ _. ⌜ after x z p ≡ mulIn n (a .0) (b .0) (before x z p) ⌝ }
-    ensures number { λ c. ⌜ c ≡ clashesIn n (a .0) (b .0) (before x z p) ⌝ }
+    ensures { λ _. ⌜ afterOf m x z p ≡ mulIn n (a .0) (b .0) (beforeOf m x z p) ⌝ }
+    ensures number { λ c. ⌜ c ≡ clashesIn n (a .0) (b .0) (beforeOf m x z p) ⌝ }
 {
-    let m = p.len();
     if encoding::out_fault(n, m, x, z, p) != 0 {
         return 0;
     }
@@ -98,5 +106,5 @@ pub fn imul_unchecked(
     if m <= b.0 {
         return 0;
     }
-    mul_rows(encoding::words(n), x, z, p, a, b)
+    mul_rows(encoding::words(n), m, x, z, p, a, b)
 }

@@ -1,7 +1,7 @@
 use borrow.Author.Needs.{needs}
 use Rattle.encoding.specs.Set.{mem}
 use Rattle.replay.specs.Check.{task, claim}
-use Rattle.replay.proofs.Faults.{refusing, check-passed, judging}
+use Rattle.replay.proofs.Faults.{refusing, check-passed, judged-lent, judging}
 use Rattle.replay.proofs.check.Statement.{statement}
 use Rattle.replay.proofs.check.Tie as tie
 
@@ -39,7 +39,7 @@ returns-2 c =
     let k = c .before .before .before .before .before .before .before .before .before .before .before .before .before .claim-fault in
     let m = c .before .before .before .before .before .before .before .before .before .before .before .before .smaller in
     let g = c .before .before .before .before .before .before .before .before .before .before .before .log-fault in
-    judging T L (t .ensures .0) (k .ensures .0) (m .ensures) (g .ensures) (t .ensures .1) (k .ensures .1) (c .before .before .before .before .before .before .before .before .before .before .if1 .left) (c .before .before .before .before .before .before .judge .ensures)
+    judging T L (t .ensures .0) (k .ensures .0) (m .ensures) (g .ensures) (t .ensures .1) (k .ensures .1) (c .before .before .before .before .before .before .before .before .before .before .if1 .left) (judged-lent (c .before .before .before .before .before .before .judge .kept .1 .1 .1 .1 .0) (c .before .before .before .before .before .before .judge .ensures))
 
 pub check-spec : {M : Type 1} → statement M
 check-spec =

@@ -1,6 +1,6 @@
 use mathlib.Core.Path.{sym}
 use borrow.Author.Needs.{needs}
-use Rattle.encoding.specs.Set.{mem}
+use Rattle.encoding.specs.Set.{memOf, mem}
 use Rattle.replay.specs.Check.{task}
 use Rattle.replay.proofs.Judging.{says-differs, says-yes, says-not-reduced}
 use Rattle.replay.proofs.compare.Statement.{statement}
@@ -15,7 +15,7 @@ returns : tie.Need-returns
 returns c =
     let s = c .before .before .before .before .before .before .before .before .before .before .before in
     let a = s .args in
-    let T = task (a .n) (mem (a .x .now) (a .z .now) (a .phases .now)) (a .order .now) (a .listed .now) (a .extra .now) in
+    let T = task (a .n) (memOf (a .m) (a .x .now) (a .z .now) (a .phases .now)) (a .order .now) (a .listed .now) (a .extra .now) in
     let C = mem (a .cx .now) (a .cz .now) (a .cphases .now) in
     says-differs T C (s .pre) (c .before .first-diff .ensures) (c .if1 .taken)
 
@@ -23,7 +23,7 @@ returns-2 : tie.Need-returns-2
 returns-2 c =
     let s = c .before .before .before .before .before .before .before .before .before .before .before .before .before in
     let a = s .args in
-    let T = task (a .n) (mem (a .x .now) (a .z .now) (a .phases .now)) (a .order .now) (a .listed .now) (a .extra .now) in
+    let T = task (a .n) (memOf (a .m) (a .x .now) (a .z .now) (a .phases .now)) (a .order .now) (a .listed .now) (a .extra .now) in
     let C = mem (a .cx .now) (a .cz .now) (a .cphases .now) in
     says-yes T C (s .pre) (c .before .before .before .first-diff .ensures) (c .before .before .if1 .left) (c .before .is-reduced .ensures) (c .if2 .taken)
 
@@ -31,7 +31,7 @@ returns-3 : tie.Need-returns-3
 returns-3 c =
     let s = c .before .before .before .before .before .before .before .before .before .before .before .before .before in
     let a = s .args in
-    let T = task (a .n) (mem (a .x .now) (a .z .now) (a .phases .now)) (a .order .now) (a .listed .now) (a .extra .now) in
+    let T = task (a .n) (memOf (a .m) (a .x .now) (a .z .now) (a .phases .now)) (a .order .now) (a .listed .now) (a .extra .now) in
     let C = mem (a .cx .now) (a .cz .now) (a .cphases .now) in
     says-not-reduced T C (s .pre) (c .before .before .before .first-diff .ensures) (c .before .before .if1 .left) (c .before .is-reduced .ensures) (c .if2 .left)
 

@@ -1,4 +1,4 @@
-use Rattle.terms.proofs.Answers.{lists-in, reduce-refused, leaves-at}
+use Rattle.terms.proofs.Answers.{lists-in, reduce-refused, leaves-at, leaves-lent}
 use Rattle.terms.specs.Calls.{outcomeOf}
 use Rattle.encoding.specs.Set.{mem}
 use mathlib.Core.Path.{sym, _∙_}
@@ -13,7 +13,7 @@ reduced-requires : tie.Need-reduced-requires
 reduced-requires c κs = lists-in (c .before .before .before .before .before .reduce-fault .ensures .1 (c .before .before .before .before .if1 .left))
 
 returns-2 : tie.Need-returns-2
-returns-2 c = leaves-at (sym (c .before .before .before .before .before .before .before .before .before .before .before .before .before .if1 .left) ∙ c .before .before .before .before .before .before .before .before .before .before .before .before .before .before .reduce-fault .ensures .0) (c .before .before .before .before .before .before .before .before .reduced .ensures)
+returns-2 c = leaves-lent (c .before .before .before .before .before .before .before .before .reduced .kept .1 .1 .1 .1 .0) (leaves-at (sym (c .before .before .before .before .before .before .before .before .before .before .before .before .before .if1 .left) ∙ c .before .before .before .before .before .before .before .before .before .before .before .before .before .before .reduce-fault .ensures .0) (c .before .before .before .before .before .before .before .before .reduced .ensures))
 
 pub canonicalize-spec : {M : Type 1} → statement M
 canonicalize-spec =

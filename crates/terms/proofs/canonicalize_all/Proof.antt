@@ -1,5 +1,5 @@
 use Rattle.encoding.proofs.Sets.{sound-of}
-use Rattle.terms.proofs.Answers.{reduce-refused, leaves-at}
+use Rattle.terms.proofs.Answers.{reduce-refused, leaves-at, leaves-lent}
 use Rattle.terms.specs.Calls.{wholeOutcome}
 use Rattle.encoding.specs.Set.{mem}
 use mathlib.Core.Path.{sym, _∙_}
@@ -14,7 +14,7 @@ reduced-all-requires : tie.Need-reduced-all-requires
 reduced-all-requires c κs = let a = c .before .before .before .before .before .before .before .before .before .before .before .before .before .args in sound-of (a .n) (mem (a .x .now) (a .z .now) (a .phases .now)) (c .before .before .before .before .before .set-fault .ensures .0) (c .before .before .before .before .before .set-fault .ensures .1) (c .before .before .before .before .if1 .left)
 
 returns-2 : tie.Need-returns-2
-returns-2 c = leaves-at (sym (c .before .before .before .before .before .before .before .before .before .before .before .before .before .if1 .left) ∙ c .before .before .before .before .before .before .before .before .before .before .before .before .before .before .set-fault .ensures .0) (c .before .before .before .before .before .before .before .before .reduced-all .ensures)
+returns-2 c = leaves-lent (c .before .before .before .before .before .before .before .before .reduced-all .kept .1 .1 .1 .1 .0) (leaves-at (sym (c .before .before .before .before .before .before .before .before .before .before .before .before .before .if1 .left) ∙ c .before .before .before .before .before .before .before .before .before .before .before .before .before .before .set-fault .ensures .0) (c .before .before .before .before .before .before .before .before .reduced-all .ensures))
 
 pub canonicalize-all-spec : {M : Type 1} → statement M
 canonicalize-all-spec =

@@ -6,25 +6,25 @@ use borrow.Author.Tests.{not-true, not-false}
 use borrow.Author.Needs.{needs}
 use lib.ListN.{length}
 use Rattle.pauli.specs.Row.{sameRow}
-use Rattle.encoding.specs.Set.{mem, rowsOf}
+use Rattle.encoding.specs.Set.{memOf, mem, rowsOf}
 use Rattle.reduction.specs.Checker.{firstDiff}
 use Rattle.replay.proofs.Alike.{diff-here, diff-next, diff-end}
 use Rattle.replay.proofs.rows.first_diff.Statement.{statement}
 use Rattle.replay.proofs.rows.first_diff.Tie as tie
 
 abbrev Inv-loop : tie.InvT-loop
-Inv-loop n x z phases cx cz cphases i₀ i =
-    (i ≤ length phases) × (firstDiff (sameRow n) (rowsOf n (mem x z phases)) (rowsOf n (mem cx cz cphases)) i (length phases - i) ≡ firstDiff (sameRow n) (rowsOf n (mem x z phases)) (rowsOf n (mem cx cz cphases)) 0 (length phases))
+Inv-loop n m x z phases cx cz cphases i₀ i =
+    (i ≤ m) × (firstDiff (sameRow n) (rowsOf n (memOf m x z phases)) (rowsOf n (mem cx cz cphases)) i (m - i) ≡ firstDiff (sameRow n) (rowsOf n (memOf m x z phases)) (rowsOf n (mem cx cz cphases)) 0 m)
 
 abbrev μ-loop : tie.MeasureT-loop
-μ-loop n x z phases cx cz cphases i₀ i = length phases - i
+μ-loop n m x z phases cx cz cphases i₀ i = m - i
 
 loop-holds : tie.Need-loop-holds Inv-loop μ-loop
 loop-holds c =
     let a = c .before .before .before .before .before .before .args in
-    let σ = rowsOf (a .n) (mem (a .x .now) (a .z .now) (a .phases .now)) in
+    let σ = rowsOf (a .n) (memOf (a .m) (a .x .now) (a .z .now) (a .phases .now)) in
     let τ = rowsOf (a .n) (mem (a .cx .now) (a .cz .now) (a .cphases .now)) in
-    let m = length (a .phases .now) in
+    let m = a .m in
     (omega arith, ap (firstDiff (sameRow (a .n)) σ τ 0) (sub-zero m))
 
 same-row-requires : tie.Need-same-row-requires Inv-loop μ-loop
@@ -36,9 +36,9 @@ returns : tie.Need-returns Inv-loop μ-loop
 returns c =
     let a = c .before .before .before .before .before .before .before .before .before .before .args in
     let l = c .before .before .before .loop in
-    let σ = rowsOf (a .n) (mem (a .x .now) (a .z .now) (a .phases .now)) in
+    let σ = rowsOf (a .n) (memOf (a .m) (a .x .now) (a .z .now) (a .phases .now)) in
     let τ = rowsOf (a .n) (mem (a .cx .now) (a .cz .now) (a .cphases .now)) in
-    let m = length (a .phases .now) in
+    let m = a .m in
     let s = c .before .same-row in
     diff-here (sameRow (a .n)) σ τ m (l .i) (m - l .i) (omega arith) (omega arith) (sym (not-true (s .result) (c .if1 .taken)) ∙ s .ensures) ∙ l .inv .1
 
@@ -46,9 +46,9 @@ loop-again : tie.Need-loop-again Inv-loop μ-loop
 loop-again c =
     let a = c .before .before .before .before .before .before .before .before .before .before .args in
     let l = c .before .before .before .loop in
-    let σ = rowsOf (a .n) (mem (a .x .now) (a .z .now) (a .phases .now)) in
+    let σ = rowsOf (a .n) (memOf (a .m) (a .x .now) (a .z .now) (a .phases .now)) in
     let τ = rowsOf (a .n) (mem (a .cx .now) (a .cz .now) (a .cphases .now)) in
-    let m = length (a .phases .now) in
+    let m = a .m in
     let s = c .before .same-row in
     (omega arith, diff-next (sameRow (a .n)) σ τ m (l .i) (m - l .i) (omega arith) (sym (not-false (s .result) (c .if1 .left)) ∙ s .ensures) (m - (l .i + 1)) (omega arith) ∙ l .inv .1)
 
@@ -56,9 +56,9 @@ returns-2 : tie.Need-returns-2 Inv-loop μ-loop
 returns-2 c =
     let a = c .before .before .before .before .before .before .before .before .args in
     let l = c .before .loop in
-    let σ = rowsOf (a .n) (mem (a .x .now) (a .z .now) (a .phases .now)) in
+    let σ = rowsOf (a .n) (memOf (a .m) (a .x .now) (a .z .now) (a .phases .now)) in
     let τ = rowsOf (a .n) (mem (a .cx .now) (a .cz .now) (a .cphases .now)) in
-    let m = length (a .phases .now) in
+    let m = a .m in
     diff-end (sameRow (a .n)) σ τ m (l .i) (m - l .i) (omega arith) (omega arith) ∙ l .inv .1
 
 pub first-diff-spec : {M : Type 1} → statement M

@@ -3,7 +3,7 @@ use Prim.Native.Nat.{_+_, _-_, _≤_}
 use native.Mathlib.Omega.{arith}
 use borrow.Author.Needs.{needs}
 use lib.ListN.{length, take}
-use Rattle.encoding.specs.Set.{mem}
+use Rattle.encoding.specs.Set.{memOf}
 use Rattle.reduction.specs.Log.{pairs}
 use Rattle.replay.specs.Steps.{redone}
 use Rattle.replay.proofs.Log.{redo-more}
@@ -11,21 +11,21 @@ use Rattle.replay.proofs.rows.redo.Statement.{statement}
 use Rattle.replay.proofs.rows.redo.Tie as tie
 
 abbrev Inv-loop : tie.InvT-loop
-Inv-loop n x₀ z₀ phases₀ log k i₀ x z phases i =
-    (i ≤ k) × ((length x ≡ length x₀) × (length z ≡ length z₀) × (length phases ≡ length phases₀)) × (mem x z phases ≡ redone n (take i (pairs log)) (mem x₀ z₀ phases₀))
+Inv-loop n m x₀ z₀ phases₀ log k i₀ x z phases i =
+    (i ≤ k) × ((length x ≡ length x₀) × (length z ≡ length z₀) × (length phases ≡ length phases₀)) × (memOf m x z phases ≡ redone n (take i (pairs log)) (memOf m x₀ z₀ phases₀))
 
 abbrev μ-loop : tie.MeasureT-loop
-μ-loop n x₀ z₀ phases₀ log k i₀ x z phases i = k - i
+μ-loop n m x₀ z₀ phases₀ log k i₀ x z phases i = k - i
 
 loop-holds : tie.Need-loop-holds Inv-loop μ-loop
 unfolding redone
 loop-holds c = (omega arith, (refl, refl, refl), refl)
 
-cast-t15 : tie.Need-cast-t15 Inv-loop μ-loop
-cast-t15 c = omega (arith, c .shared-slice-known2 .given (c .before .before .loop .i + c .before .before .loop .i))
+cast-t16 : tie.Need-cast-t16 Inv-loop μ-loop
+cast-t16 c = omega (arith, c .shared-slice-known2 .given (c .before .before .loop .i + c .before .before .loop .i))
 
-cast-t17 : tie.Need-cast-t17 Inv-loop μ-loop
-cast-t17 c = omega (arith, c .shared-slice-known3 .given (c .before .before .before .loop .i + c .before .before .before .loop .i + 1))
+cast-t18 : tie.Need-cast-t18 Inv-loop μ-loop
+cast-t18 c = omega (arith, c .shared-slice-known3 .given (c .before .before .before .loop .i + c .before .before .before .loop .i + 1))
 
 imul-unchecked-requires : tie.Need-imul-unchecked-requires Inv-loop μ-loop
 imul-unchecked-requires c κs = tt
@@ -37,8 +37,8 @@ loop-again c =
     let l = c .before .before .before .before .before .before .before .before .before .before .before .before .before .loop in
     let d = c .before .before .before .before .before .before .imul-unchecked in
     let k = d .kept in
-    let M₀ = mem (a .x .now) (a .z .now) (a .phases .now) in
-    (omega arith, (k .1 .0 ∙ l .inv .1 .0, k .1 .1 .0 ∙ l .inv .1 .1, k .1 .1 .1 .0 ∙ l .inv .1 .2), redo-more (a .n) (a .log .now) (l .i) M₀ (omega (arith, s .pre)) (l .inv .2) (d .ensures .0))
+    let M₀ = memOf (a .m) (a .x .now) (a .z .now) (a .phases .now) in
+    (omega arith, (k .1 .1 .0 ∙ l .inv .1 .0, k .1 .1 .1 .0 ∙ l .inv .1 .1, k .1 .1 .1 .1 .0 ∙ l .inv .1 .2), redo-more (a .n) (a .log .now) (l .i) M₀ (omega (arith, s .pre)) (l .inv .2) (d .ensures .0))
 
 same-length : tie.Need-same-length Inv-loop μ-loop
 same-length c = c .before .loop .inv .1 .0
@@ -53,7 +53,7 @@ returns : tie.Need-returns Inv-loop μ-loop
 returns c =
     let a = c .before .before .before .before .before .before .args in
     let l = c .before .loop in
-    l .inv .2 ∙ ap (λ j. redone (a .n) (take j (pairs (a .log .now))) (mem (a .x .now) (a .z .now) (a .phases .now))) (let e : l .i ≡ a .k = omega arith in e)
+    l .inv .2 ∙ ap (λ j. redone (a .n) (take j (pairs (a .log .now))) (memOf (a .m) (a .x .now) (a .z .now) (a .phases .now))) (let e : l .i ≡ a .k = omega arith in e)
 
 pub redo-spec : {M : Type 1} → statement M
 redo-spec =
@@ -65,11 +65,11 @@ redo-spec =
     (λ c. search needs)
     (λ c. search needs)
     (λ c. search needs)
-    cast-t15
+    cast-t16
     (λ c. search needs)
     (λ c. search needs)
     (λ c. search needs)
-    cast-t17
+    cast-t18
     imul-unchecked-requires
     (λ c. search needs)
     (λ c. search needs)

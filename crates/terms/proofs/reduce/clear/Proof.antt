@@ -2,7 +2,7 @@ use Rattle.terms.proofs.Steps.{does-as, Going, going-start, going-next,
 use Rattle.terms.specs.Work.{runOf}
 use Rattle.reduction.specs.Twin.{turnC}
 use Rattle.reduction.specs.Log.{capacity}
-use Rattle.encoding.specs.Set.{mem}
+use Rattle.encoding.specs.Set.{memOf}
 use Rattle.pauli.specs.Row.{mulRow, bitRow}
 use borrow.Author.Needs.{needs}
 use native.Mathlib.Omega.{arith}
@@ -13,10 +13,10 @@ use Rattle.terms.proofs.reduce.clear.Statement.{statement}
 use Rattle.terms.proofs.reduce.clear.Tie as tie
 
 abbrev Inv-loop : tie.InvT-loop
-Inv-loop n x₀ z₀ p₀ log₀ list c pivot r₀ i₀ x z p log r i = Going n (turnC (bitRow n) (mulRow n) (capacity log₀) c pivot) list (mem x₀ z₀ p₀) log₀ r₀ (mem x z p) log r i
+Inv-loop n m x₀ z₀ p₀ log₀ list c pivot r₀ i₀ x z p log r i = Going n (turnC (bitRow n) (mulRow n) (capacity log₀) c pivot) list (memOf m x₀ z₀ p₀) log₀ r₀ (memOf m x z p) log r i
 
 abbrev μ-loop : tie.MeasureT-loop
-μ-loop n x₀ z₀ p₀ log₀ list c pivot r₀ i₀ x z p log r i = length list - i
+μ-loop n m x₀ z₀ p₀ log₀ list c pivot r₀ i₀ x z p log r i = length list - i
 
 loop-holds : tie.Need-loop-holds Inv-loop μ-loop
 loop-holds c = let s = c .before .before .before .before .before in let a = s .args in going-start (turnC (bitRow (a .n)) (mulRow (a .n)) (capacity (a .log .now)) (a .c) (a .pivot)) (a .list .now) (s .pre .0)
@@ -25,7 +25,7 @@ turn-requires : tie.Need-turn-requires Inv-loop μ-loop
 turn-requires c κs =
     let s = c .before .before .before .before .before .before .before .before .before .before .before .before in
     let l = c .before .before .before .before .before .before .loop in
-    (l .inv .ready, (s .pre .1 .0, omega (arith, l .inv .keeps .e-len, s .pre .1 .1), omega (arith, l .inv .keeps .e-len, s .pre .1 .2 (l .i) (omega arith))))
+    (l .inv .ready, (s .pre .1 .0, s .pre .1 .1, s .pre .1 .2 (l .i) (omega arith)))
 
 same-length : tie.Need-same-length Inv-loop μ-loop
 same-length c = c .before .before .before .before .before .before .before .before .before .turn .ensures .keeps .x-len ∙ c .before .before .before .before .before .before .before .before .before .before .before .before .before .before .before .before .loop .inv .keeps .x-len
@@ -43,13 +43,16 @@ returns : tie.Need-returns Inv-loop μ-loop
 returns c =
     let a = c .before .before .before .before .before .before .before .before .before .before .before .before .before .before .before .before .before .before .before .before .before .before .args in
     let l = c .before .before .before .before .before .before .before .before .before .before .before .before .before .before .before .before .loop in
-    going-full (l .inv) (omega arith) (c .if1 .taken) (does-as (ap (λ m. turnC (bitRow (a .n)) (mulRow (a .n)) (m / 2) (a .c) (a .pivot) (getD (a .list .now) (l .i) 0) (runOf (a .n) (mem (l .x) (l .z) (l .p)) (l .log) (l .r))) (l .inv .log-len)) (c .before .before .before .before .before .before .before .before .before .turn .ensures))
+    going-full (l .inv) (omega arith) (c .if1 .taken) (does-as (ap (λ m. turnC (bitRow (a .n)) (mulRow (a .n)) (m / 2) (a .c) (a .pivot) (getD (a .list .now) (l .i) 0) (runOf (a .n) (memOf (a .m) (l .x) (l .z) (l .p)) (l .log) (l .r))) (l .inv .log-len)) (c .before .before .before .before .before .before .before .before .before .turn .ensures))
+
+add-i : tie.Need-add-i Inv-loop μ-loop
+add-i c = omega (arith, c .before .before .before .before .before .before .before .before .before .before .before .before .before .before .before .loop-test .taken, c .before .before .before .before .before .before .before .before .before .before .before .before .before .before .before .before .before .before .before .before .before .before .good .1 .1 .1 .1 .1 .1 .0)
 
 loop-again : tie.Need-loop-again Inv-loop μ-loop
 loop-again c =
     let a = c .before .before .before .before .before .before .before .before .before .before .before .before .before .before .before .before .before .before .before .before .before .before .args in
     let l = c .before .before .before .before .before .before .before .before .before .before .before .before .before .before .before .before .loop in
-    going-next (l .inv) (omega arith) (c .if1 .left) (does-as (ap (λ m. turnC (bitRow (a .n)) (mulRow (a .n)) (m / 2) (a .c) (a .pivot) (getD (a .list .now) (l .i) 0) (runOf (a .n) (mem (l .x) (l .z) (l .p)) (l .log) (l .r))) (l .inv .log-len)) (c .before .before .before .before .before .before .before .before .before .turn .ensures))
+    going-next (l .inv) (omega arith) (c .if1 .left) (does-as (ap (λ m. turnC (bitRow (a .n)) (mulRow (a .n)) (m / 2) (a .c) (a .pivot) (getD (a .list .now) (l .i) 0) (runOf (a .n) (memOf (a .m) (l .x) (l .z) (l .p)) (l .log) (l .r))) (l .inv .log-len)) (c .before .before .before .before .before .before .before .before .before .turn .ensures))
 
 same-length-5 : tie.Need-same-length-5 Inv-loop μ-loop
 same-length-5 c = c .before .loop .inv .keeps .x-len
@@ -81,7 +84,7 @@ clear-spec =
     same-length-3
     same-length-4
     returns
-    (λ c. search needs)
+    add-i
     (λ c. search needs)
     loop-again
     same-length-5

@@ -3,7 +3,7 @@ use Rattle.terms.proofs.Steps.{does-as, does-then, does-full, ready-nex
 use Rattle.terms.specs.Work.{runOf}
 use Rattle.reduction.specs.Twin.{through, turnC}
 use Rattle.reduction.specs.Log.{capacity}
-use Rattle.encoding.specs.Set.{mem}
+use Rattle.encoding.specs.Set.{memOf}
 use Rattle.pauli.specs.Row.{mulRow, bitRow}
 use native.Mathlib.Omega.{arith}
 use mathlib.Core.Path.{ap}
@@ -15,7 +15,7 @@ use Rattle.terms.proofs.reduce.clear_both.Tie as tie
 returns : tie.Need-returns
 returns c =
     let a = c .before .before .before .before .before .before .before .before .before .before .before .before .before .before .before .before .before .before .before .before .args in
-    does-as (through-append (turnC (bitRow (a .n)) (mulRow (a .n)) (capacity (a .log .now)) (a .c) (a .pivot)) (a .listed .now) (a .extra .now) (runOf (a .n) (mem (a .x .now) (a .z .now) (a .p .now)) (a .log .now) (a .s)))
+    does-as (through-append (turnC (bitRow (a .n)) (mulRow (a .n)) (capacity (a .log .now)) (a .c) (a .pivot)) (a .listed .now) (a .extra .now) (runOf (a .n) (memOf (a .m) (a .x .now) (a .z .now) (a .p .now)) (a .log .now) (a .s)))
     (does-full (λ r. through (turnC (bitRow (a .n)) (mulRow (a .n)) (capacity (a .log .now)) (a .c) (a .pivot)) (a .extra .now) r) (c .before .before .before .before .before .before .before .before .before .clear .ensures) (c .if1 .taken))
 
 clear-requires-2 : tie.Need-clear-requires-2
@@ -23,14 +23,14 @@ clear-requires-2 c κs =
     let s = c .before .before .before .before .before .before .before .before .before .before .before .before .before .before .before .before .before .before .before .before .before .before .before .before in
     let h = s .pre .1 in
     let d = c .before .before .before .before .before .before .before .before .before .before .before .before .before .clear .ensures in
-    (ready-next d (c .before .before .before .before .if1 .left), (h .0, omega (arith, d .keeps .e-len, h .1), λ i hi. omega (arith, d .keeps .e-len, h .3 i hi)))
+    (ready-next d (c .before .before .before .before .if1 .left), (h .0, h .1, h .3))
 
 returns-2 : tie.Need-returns-2
 returns-2 c =
     let a = c .before .before .before .before .before .before .before .before .before .before .before .before .before .before .before .before .before .before .before .before .before .before .before .before .before .before .before .before .before .before .before .before .before .args in
     let d = c .before .before .before .before .before .before .before .before .before .before .before .before .before .before .before .before .before .before .before .before .before .before .clear in
-    let same = ap (λ m. through (turnC (bitRow (a .n)) (mulRow (a .n)) (m / 2) (a .c) (a .pivot)) (a .extra .now) (runOf (a .n) (mem (d .last .1 .0) (d .last .1 .1 .0) (d .last .1 .1 .1 .0)) (d .last .1 .1 .1 .1 .0) (d .result))) (d .ensures .log-len) in
-    does-as (through-append (turnC (bitRow (a .n)) (mulRow (a .n)) (capacity (a .log .now)) (a .c) (a .pivot)) (a .listed .now) (a .extra .now) (runOf (a .n) (mem (a .x .now) (a .z .now) (a .p .now)) (a .log .now) (a .s)))
+    let same = ap (λ m. through (turnC (bitRow (a .n)) (mulRow (a .n)) (m / 2) (a .c) (a .pivot)) (a .extra .now) (runOf (a .n) (memOf (a .m) (d .last .1 .1 .0) (d .last .1 .1 .1 .0) (d .last .1 .1 .1 .1 .0)) (d .last .1 .1 .1 .1 .1 .0) (d .result))) (d .ensures .log-len) in
+    does-as (through-append (turnC (bitRow (a .n)) (mulRow (a .n)) (capacity (a .log .now)) (a .c) (a .pivot)) (a .listed .now) (a .extra .now) (runOf (a .n) (memOf (a .m) (a .x .now) (a .z .now) (a .p .now)) (a .log .now) (a .s)))
     (does-then (d .ensures) (c .before .before .before .before .before .before .before .before .before .before .before .before .before .if1 .left) (does-as same (c .before .before .before .before .before .before .before .before .clear2 .ensures)))
 
 pub clear-both-spec : {M : Type 1} → statement M

@@ -38,13 +38,13 @@ returns-2 c =
     let d = c .before .before .before .before .before .before .before .before .before .before .before .before .before .before .before .before .before .find in
     (h .1, column-full (s .pre .0) (a .listed .now) (a .extra .now) (a .c) (getD (a .listed .now) (d .result) 0) (find-some (s .pre .0 .sound) (a .listed .now) (a .s .t) (a .c) (d .result) (h .1) (h .2) (h .0) (d .ensures) (omega (arith, c .before .before .before .before .before .before .before .before .before .before .before .before .before .before .before .before .if1 .left))) (c .if2 .taken) (c .before .before .before .before .before .before .before .before .before .pivot-by .ensures))
 
-add-t18 : tie.Need-add-t18
-add-t18 c =
+add-t19 : tie.Need-add-t19
+add-t19 c =
     let s = c .before .before .before .before .before .before .before .before .before .before .before .before .before .before .before .before .before .before .before .before .before .before .before .before .before .before in
     let a = s .args in
     let h = s .pre .1 in
     let d = c .before .before .before .before .before .before .before .before .before .before .before .before .before .before .before .before .before .find in
-    omega (arith, find-from (s .pre .0 .sound) (a .listed .now) (a .s .t) (a .c) (d .result) (h .1) (h .2) (h .0) (d .ensures), c .before .before .before .before .before .before .before .before .before .before .before .before .before .before .before .before .if1 .left, s .good .1 .1 .1 .1 .1 .0)
+    omega (arith, find-from (s .pre .0 .sound) (a .listed .now) (a .s .t) (a .c) (d .result) (h .1) (h .2) (h .0) (d .ensures), c .before .before .before .before .before .before .before .before .before .before .before .before .before .before .before .before .if1 .left, s .good .1 .1 .1 .1 .1 .1 .0)
 
 returns-3 : tie.Need-returns-3
 returns-3 c =
@@ -72,7 +72,7 @@ column-spec =
     (λ c. search needs)
     (λ c. search needs)
     returns-2
-    add-t18
+    add-t19
     (λ c. search needs)
     (λ c. search needs)
     (λ c. search needs)

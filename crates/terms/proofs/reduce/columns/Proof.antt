@@ -2,7 +2,7 @@ use Rattle.terms.proofs.Steps.{does-as, Going, going-start, going-next,
 use Rattle.terms.specs.Work.{runOf, start}
 use Rattle.reduction.specs.Twin.{columnC}
 use Rattle.reduction.specs.Log.{capacity}
-use Rattle.encoding.specs.Set.{mem}
+use Rattle.encoding.specs.Set.{memOf}
 use Rattle.pauli.specs.Row.{mulRow, bitRow}
 use borrow.Author.Needs.{needs}
 use native.Mathlib.Omega.{arith}
@@ -13,10 +13,10 @@ use Rattle.terms.proofs.reduce.columns.Statement.{statement}
 use Rattle.terms.proofs.reduce.columns.Tie as tie
 
 abbrev Inv-loop : tie.InvT-loop
-Inv-loop n x₀ z₀ p₀ log₀ order listed extra r₀ i₀ x z p log r i = (r .t ≤ length listed) × Going n (columnC (bitRow n) (mulRow n) (capacity log₀) listed extra) order (mem x₀ z₀ p₀) log₀ start (mem x z p) log r i
+Inv-loop n m x₀ z₀ p₀ log₀ order listed extra r₀ i₀ x z p log r i = (r .t ≤ length listed) × Going n (columnC (bitRow n) (mulRow n) (capacity log₀) listed extra) order (memOf m x₀ z₀ p₀) log₀ start (memOf m x z p) log r i
 
 abbrev μ-loop : tie.MeasureT-loop
-μ-loop n x₀ z₀ p₀ log₀ order listed extra r₀ i₀ x z p log r i = length order - i
+μ-loop n m x₀ z₀ p₀ log₀ order listed extra r₀ i₀ x z p log r i = length order - i
 
 loop-holds : tie.Need-loop-holds Inv-loop μ-loop
 loop-holds c = let s = c .before .before .before .before .before .before .before in let a = s .args in (omega arith, going-start (columnC (bitRow (a .n)) (mulRow (a .n)) (capacity (a .log .now)) (a .listed .now) (a .extra .now)) (a .order .now) (record { sound = s .pre .0; room = omega arith; going = refl }))
@@ -29,8 +29,7 @@ column-requires c κs =
     let s = c .before .before .before .before .before .before .before .before .before .before .before .before .before .before in
     let h = s .pre .1 in
     let l = c .before .before .before .before .before .before .loop in
-    let many = l .inv .1 .keeps .e-len in
-    (l .inv .1 .ready, (h .0 (l .i) (omega arith), l .inv .0, λ i hi. omega (arith, many, h .1 i hi), λ i hi. omega (arith, many, h .2 i hi)))
+    (l .inv .1 .ready, (h .0 (l .i) (omega arith), l .inv .0, h .1, h .2))
 
 same-length : tie.Need-same-length Inv-loop μ-loop
 same-length c = c .before .before .before .before .before .before .before .before .before .column .ensures .1 .keeps .x-len ∙ c .before .before .before .before .before .before .before .before .before .before .before .before .before .before .before .before .loop .inv .1 .keeps .x-len
@@ -48,10 +47,10 @@ returns : tie.Need-returns Inv-loop μ-loop
 returns c =
     let a = c .before .before .before .before .before .before .before .before .before .before .before .before .before .before .before .before .before .before .before .before .before .before .before .before .args in
     let l = c .before .before .before .before .before .before .before .before .before .before .before .before .before .before .before .before .loop in
-    going-full (l .inv .1) (omega arith) (c .if1 .taken) (does-as (ap (λ m. columnC (bitRow (a .n)) (mulRow (a .n)) (m / 2) (a .listed .now) (a .extra .now) (getD (a .order .now) (l .i) 0) (runOf (a .n) (mem (l .x) (l .z) (l .p)) (l .log) (l .r))) (l .inv .1 .log-len)) (c .before .before .before .before .before .before .before .before .before .column .ensures .1))
+    going-full (l .inv .1) (omega arith) (c .if1 .taken) (does-as (ap (λ m. columnC (bitRow (a .n)) (mulRow (a .n)) (m / 2) (a .listed .now) (a .extra .now) (getD (a .order .now) (l .i) 0) (runOf (a .n) (memOf (a .m) (l .x) (l .z) (l .p)) (l .log) (l .r))) (l .inv .1 .log-len)) (c .before .before .before .before .before .before .before .before .before .column .ensures .1))
 
 add-i : tie.Need-add-i Inv-loop μ-loop
-add-i c = omega (arith, c .before .before .before .before .before .before .before .before .before .before .before .before .before .before .before .loop-test .taken, c .before .before .before .before .before .before .before .before .before .before .before .before .before .before .before .before .before .before .before .before .before .before .before .before .good .1 .1 .1 .1 .1 .0)
+add-i c = omega (arith, c .before .before .before .before .before .before .before .before .before .before .before .before .before .before .before .loop-test .taken, c .before .before .before .before .before .before .before .before .before .before .before .before .before .before .before .before .before .before .before .before .before .before .before .before .good .1 .1 .1 .1 .1 .1 .0)
 
 loop-less : tie.Need-loop-less Inv-loop μ-loop
 loop-less c = omega (arith, c .before .before .before .before .before .before .before .before .before .before .before .before .before .before .before .loop-test .taken)
@@ -60,7 +59,7 @@ loop-again : tie.Need-loop-again Inv-loop μ-loop
 loop-again c =
     let a = c .before .before .before .before .before .before .before .before .before .before .before .before .before .before .before .before .before .before .before .before .before .before .before .before .args in
     let l = c .before .before .before .before .before .before .before .before .before .before .before .before .before .before .before .before .loop in
-    (c .before .before .before .before .before .before .before .before .before .column .ensures .0, going-next (l .inv .1) (omega arith) (c .if1 .left) (does-as (ap (λ m. columnC (bitRow (a .n)) (mulRow (a .n)) (m / 2) (a .listed .now) (a .extra .now) (getD (a .order .now) (l .i) 0) (runOf (a .n) (mem (l .x) (l .z) (l .p)) (l .log) (l .r))) (l .inv .1 .log-len)) (c .before .before .before .before .before .before .before .before .before .column .ensures .1)))
+    (c .before .before .before .before .before .before .before .before .before .column .ensures .0, going-next (l .inv .1) (omega arith) (c .if1 .left) (does-as (ap (λ m. columnC (bitRow (a .n)) (mulRow (a .n)) (m / 2) (a .listed .now) (a .extra .now) (getD (a .order .now) (l .i) 0) (runOf (a .n) (memOf (a .m) (l .x) (l .z) (l .p)) (l .log) (l .r))) (l .inv .1 .log-len)) (c .before .before .before .before .before .before .before .before .before .column .ensures .1)))
 
 same-length-5 : tie.Need-same-length-5 Inv-loop μ-loop
 same-length-5 c = c .before .loop .inv .1 .keeps .x-len

@@ -3,7 +3,7 @@ use Rattle.terms.specs.Work.{runOf}
 use Rattle.reduction.specs.Twin.{through, turnC, pivotC}
 use Rattle.reduction.specs.Log.{capacity}
 use mathlib.Core.List.{_++_}
-use Rattle.encoding.specs.Set.{mem}
+use Rattle.encoding.specs.Set.{memOf}
 use Rattle.pauli.specs.Row.{mulRow, bitRow}
 use native.Mathlib.Omega.{arith}
 use mathlib.Core.Path.{ap}
@@ -23,14 +23,14 @@ clear-both-requires c κs =
     let s = c .before .before .before .before .before .before .before .before .before .before .before .before .before .before .before .before .before .before .before .before .before .before .before .before in
     let h = s .pre .1 in
     let d = c .before .before .before .before .before .before .before .before .before .before .before .before .before .lead .ensures in
-    (ready-next d (c .before .before .before .before .if1 .left), (h .0, omega (arith, d .keeps .e-len, h .1), λ i hi. omega (arith, d .keeps .e-len, h .3 i hi), λ i hi. omega (arith, d .keeps .e-len, h .4 i hi)))
+    (ready-next d (c .before .before .before .before .if1 .left), (h .0, h .1, h .3, h .4))
 
 returns-2 : tie.Need-returns-2
 unfolding pivotC
 returns-2 c =
     let a = c .before .before .before .before .before .before .before .before .before .before .before .before .before .before .before .before .before .before .before .before .before .before .before .before .before .before .before .before .before .before .before .before .before .args in
     let d = c .before .before .before .before .before .before .before .before .before .before .before .before .before .before .before .before .before .before .before .before .before .before .lead in
-    let same = ap (λ m. through (turnC (bitRow (a .n)) (mulRow (a .n)) (m / 2) (a .c) (a .pivot)) (a .listed .now ++ a .extra .now) (runOf (a .n) (mem (d .last .1 .0) (d .last .1 .1 .0) (d .last .1 .1 .1 .0)) (d .last .1 .1 .1 .1 .0) (d .result))) (d .ensures .log-len) in
+    let same = ap (λ m. through (turnC (bitRow (a .n)) (mulRow (a .n)) (m / 2) (a .c) (a .pivot)) (a .listed .now ++ a .extra .now) (runOf (a .n) (memOf (a .m) (d .last .1 .1 .0) (d .last .1 .1 .1 .0) (d .last .1 .1 .1 .1 .0)) (d .last .1 .1 .1 .1 .1 .0) (d .result))) (d .ensures .log-len) in
     does-then (d .ensures) (c .before .before .before .before .before .before .before .before .before .before .before .before .before .if1 .left) (does-as same (c .before .before .before .before .before .before .before .before .clear-both .ensures))
 
 pub pivot-by-spec : {M : Type 1} → statement M

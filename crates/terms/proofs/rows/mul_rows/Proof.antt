@@ -1,5 +1,6 @@
 use Rattle.terms.proofs.InSet.{rows-multiplied}
 use Rattle.terms.proofs.Columns.{small-start}
+use mathlib.Core.Path.{refl}
 use native.Mathlib.Omega.{arith}
 use borrow.Author.Needs.{needs}
 use Rattle.terms.proofs.rows.mul_rows.Statement.{statement}
@@ -16,7 +17,7 @@ returns c =
     let e = c .before .before in
     let k = e .before .before .before .before .before .before in
     let s = k .before .before .before .before .before .before .before .before in
-    rows-multiplied (s .pre) (k .imul-op-op .ensures) (e .add-exponent .ensures) _ (e .add-exponent .kept .0)
+    rows-multiplied (s .pre) (k .imul-op-op .ensures) (e .add-exponent .ensures) (s .args .m) refl
 
 pub mul-rows-spec : {M : Type 1} → statement M
 mul-rows-spec =
