@@ -13,7 +13,7 @@ use Rattle.reduction.specs.Rule.{mulAt, multiply, counted, first, clear, pivot,
 use Rattle.reduction.specs.Replay.{replay}
 use Rattle.reduction.specs.Log.{units, logged}
 use Rattle.reduction.specs.Capacity.{capped}
-use Rattle.terms.specs.Ranks.{byRank, numbered}
+use Rattle.encoding.specs.Ranks.{byRank, numbered}
 use Rattle.mat_elem.specs.Terms.{fallsAfter}
 use Rattle.mat_elem.specs.Sums.{sumOver}
 use Rattle.mat_elem.specs.whole.Sums as whole

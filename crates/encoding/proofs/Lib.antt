@@ -8,6 +8,7 @@ pub mod BitLaws
 pub mod OneBit
 pub mod Spare
 pub mod Faults
+pub mod Ranks
 pub mod Exponents
 pub mod States
 pub mod Memory

@@ -3,3 +3,4 @@ pub mod Words
 pub mod Set
 pub mod Lent
 pub mod Refusals
+pub mod Ranks

@@ -29,8 +29,8 @@ use Rattle.reduction.proofs.Lists.{in-left}
 use Rattle.reduction.proofs.Entries.{BadAt}
 use Rattle.reduction.proofs.Checker.{DiffersAt}
 use Rattle.reduction.proofs.PauliRows.{rows-laws, rows-tell}
-use Rattle.terms.specs.Ranks.{TableLine, byRank}
-use Rattle.terms.proofs.Ranks.{Given, given-iff}
+use Rattle.encoding.specs.Ranks.{TableLine, byRank}
+use Rattle.encoding.proofs.Ranks.{Given, given-iff}
 use Rattle.terms.proofs.Whole.{every-once}
 use Rattle.replay.specs.Check.{Task, Claim, Passed, Checked, checkFault, verdictOn, workingFor, given, givenOr}
 use Rattle.replay.specs.Demand.{RightClaim, EveryColumn, NoPhaseAtStart}

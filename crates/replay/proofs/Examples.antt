@@ -12,7 +12,7 @@ use Rattle.reduction.specs.Replay.{replay}
 use Rattle.reduction.specs.Log.{pairs}
 use Rattle.reduction.specs.Form.{zeroIn, onlyIn, reducedFrom, reduced}
 use Rattle.reduction.specs.Checker.{good, firstBad, firstDiff, verdictBy, verdict, working, workingBy}
-use Rattle.terms.specs.Ranks.{byRank, numbered}
+use Rattle.encoding.specs.Ranks.{byRank, numbered}
 use Rattle.replay.specs.Check.{Task, task, Claim, claim, checkFault, givenOr, verdictOn, workingFor}
 use Rattle.replay.specs.declared.Verdict.{Verdict}
 use Rattle.replay.specs.declared.Verdict.the-variants.{BadEntry, Differs, NotReduced, Yes, Refused}

@@ -14,9 +14,9 @@ use Rattle.encoding.specs.Words.{odd}
 use Rattle.encoding.specs.Set.{Mem, memOf, mem, count, Valid}
 use Rattle.encoding.specs.Refusals.{faultFrom, fault, joined, least, setTests, leftOr, differentRows}
 use Rattle.encoding.proofs.Faults.{joined-fault, both-parts, least-none, least-more, orElse, or-none, different-is, same-rows, kept}
-use Rattle.terms.specs.Ranks.{TableLine, line, byRank}
+use Rattle.encoding.specs.Ranks.{TableLine, line, byRank}
 use Rattle.terms.specs.Refused.{repeated, reduceTests, columnTwice, reduceFault}
-use Rattle.terms.proofs.Ranks.{ranked}
+use Rattle.encoding.proofs.Ranks.{ranked}
 use Rattle.replay.specs.Check.{Task, Claim, claimTests, checkTests, oddLog, checkFault, TaskPassed, ClaimPassed, Passed, givenOr, verdictOn, workingFor, Checked}
 use Rattle.replay.specs.Steps.{Judged}
 use Rattle.replay.specs.declared.Verdict.{Verdict}

@@ -25,11 +25,11 @@ use Rattle.reduction.proofs.Log.{length-pairs}
 use Rattle.reduction.proofs.Entries.{none-bad}
 use Rattle.reduction.proofs.Theorems as theorems
 use Rattle.reduction.proofs.PauliRows.{rows-laws, rows-tell}
-use Rattle.terms.specs.Ranks.{byRank}
+use Rattle.encoding.specs.Ranks.{byRank}
 use Rattle.terms.specs.Refused.{listTests, reduceTests, columnTwice}
 use Rattle.terms.specs.Calls.{upTo, Reduces, ReducesAll}
 use Rattle.terms.specs.declared.Canonicalized.the-variants.{Done}
-use Rattle.terms.proofs.Ranks.{ranked}
+use Rattle.encoding.proofs.Ranks.{ranked}
 use Rattle.terms.proofs.Finished.{Finished, finished, none-refused, proper-replay, proper-set}
 use Rattle.terms.proofs.Whole.{whole-is, whole-names}
 use Rattle.replay.specs.Check.{Task, task, Claim, claim, claimTests, checkTests, oddLog, checkFault, givenOr, verdictOn, workingFor, Checked}

@@ -15,7 +15,7 @@ use Rattle.reduction.specs.Replay.{replay, productOf}
 use Rattle.reduction.specs.Log.{pairs}
 use Rattle.reduction.specs.Form.{zeroIn, onlyIn, reducedFrom, reduced}
 use Rattle.reduction.specs.Checker.{firstBad, firstDiff, verdictBy, verdict, working, workingBy}
-use Rattle.terms.specs.Ranks.{byRank, numbered}
+use Rattle.encoding.specs.Ranks.{byRank, numbered}
 use Rattle.replay.specs.Check.{Task, task, claim}
 use Rattle.replay.specs.Demand.{NoPhaseAtStart, EveryColumn}
 use Rattle.replay.specs.declared.Verdict.the-variants.{Yes}

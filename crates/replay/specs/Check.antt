@@ -13,7 +13,7 @@ use Rattle.encoding.specs.Refusals.{joined, setTests, differentRows, leftOr}
 use Rattle.reduction.specs.Log.{pairs}
 use Rattle.reduction.specs.Checker.{verdict, working, badEntry, differs, notReduced, accepted}
 use Rattle.reduction.specs.Checker as checker
-use Rattle.terms.specs.Ranks.{TableLine, line, byRank, numbered}
+use Rattle.encoding.specs.Ranks.{TableLine, line, byRank, numbered}
 use Rattle.terms.specs.Refused.{reduceTests, columnTwice, Reducible}
 use Rattle.replay.specs.declared.Verdict.{Verdict}
 use Rattle.replay.specs.declared.Verdict.the-variants.{BadEntry, Differs, NotReduced, Yes, Refused}

@@ -5,7 +5,7 @@ ghost use mathlib.Core.List.{[], _∷_};
 ghost use lib.Dec.{eqb};
 ghost use Rattle.encoding.specs.Lent.{lent, before, after, lentOf, beforeOf, afterOf};
 ghost use Rattle.encoding.specs.Refusals.{fault};
-ghost use Rattle.terms.specs.Ranks.{byRank, line};
+ghost use Rattle.encoding.specs.Ranks.{byRank, line};
 ghost use Rattle.replay.specs.Check.{task, claim, claimTests, oddLog, ClaimPassed, Passed, given, verdictOn, Checked};
 ghost use Rattle.replay.specs.Steps.{Judged};
 use encoding::pick;

@@ -28,14 +28,14 @@ use Rattle.reduction.proofs.Stop.{stops-is-capped}
 use Rattle.terms.specs.declared.reduce.Progress.{Progress}
 use Rattle.terms.specs.declared.Canonicalized.{Canonicalized}
 use Rattle.terms.specs.declared.Canonicalized.the-variants.{Done, Full, Refused}
-use Rattle.terms.specs.Ranks.{byRank}
+use Rattle.encoding.specs.Ranks.{byRank}
 use Rattle.terms.specs.Refused.{listTests, reduceTests, columnTwice, listLines, reduceFault, Reducible}
 use Rattle.pauli.specs.Rows.{clashesOf}
 use Rattle.terms.specs.declared.Clashes.the-variants as clash
 use Rattle.terms.specs.Leaves.{mulIn, clashesIn}
 use Rattle.terms.specs.Work.{Below, runOf, outcome, start, Does, BothIn, ListsIn}
 use Rattle.terms.specs.Calls.{clashesOr, Multiplies, answerOf, numberFor, rowsLeft, entriesLeft, Leaves, outcomeOf, wholeOutcome, upTo}
-use Rattle.terms.proofs.Ranks.{ranked}
+use Rattle.encoding.proofs.Ranks.{ranked}
 use Rattle.terms.proofs.Scans.{no-line, asked-of, once-of}
 use Rattle.terms.proofs.RowView.{mul-view, clashes-view}
 

@@ -32,10 +32,10 @@ use Rattle.reduction.proofs.Theorems.{log-replays, entries-good, entries-most, 
 use Rattle.reduction.proofs.PauliRows.{rows-laws}
 use Rattle.terms.specs.declared.Canonicalized.{Canonicalized}
 use Rattle.terms.specs.declared.Canonicalized.the-variants.{Done, Full, Refused}
-use Rattle.terms.specs.Ranks.{TableLine, byRank}
+use Rattle.encoding.specs.Ranks.{TableLine, byRank}
 use Rattle.terms.specs.Refused.{repeated, listTests, reduceTests, columnTwice, reduceFault}
 use Rattle.terms.specs.Calls.{answerOf, rowsLeft, entriesLeft, outcomeOf, Reduces}
-use Rattle.terms.proofs.Ranks.{Given, given-iff, ranked}
+use Rattle.encoding.proofs.Ranks.{Given, given-iff, ranked}
 use Rattle.terms.proofs.Scans.{asked-of, once-of}
 
 -- ---- rows of n qubits stay so

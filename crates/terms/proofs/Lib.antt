@@ -1,4 +1,3 @@
-pub mod Ranks
 pub mod Scans
 pub mod Columns
 pub mod InSet

@@ -19,10 +19,10 @@ use Rattle.pauli.proofs.Bools.{not-so}
 use Rattle.reduction.specs.Lists.{In, has, Distinct, distinct, every}
 use Rattle.reduction.specs.Demand.{Asked}
 use Rattle.reduction.proofs.Lists.{distinct→, place-of, in-either, same?, →every, most-below}
-use Rattle.terms.specs.Ranks.{byRank, numbered}
+use Rattle.encoding.specs.Ranks.{byRank, numbered}
 use Rattle.terms.specs.Refused.{largeNumber, repeated, listTests, columnTwice, listLines}
 use Rattle.terms.specs.Work.{Blank}
-use Rattle.terms.proofs.Ranks.{ranked}
+use Rattle.encoding.proofs.Ranks.{ranked}
 
 -- ---- a + b or above, without the sum
 

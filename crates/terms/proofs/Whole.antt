@@ -18,10 +18,10 @@ use Rattle.reduction.proofs.Lists.{has→in, in-getD, place-of, distinct→, mo
 use Rattle.terms.specs.declared.Canonicalized.{Canonicalized}
 use Rattle.terms.specs.declared.Canonicalized.the-variants.{Refused}
 use Rattle.reduction.specs.Log.{capacity}
-use Rattle.terms.specs.Ranks.{byRank}
+use Rattle.encoding.specs.Ranks.{byRank}
 use Rattle.terms.specs.Refused.{listTests, reduceTests, columnTwice, reduceFault}
 use Rattle.terms.specs.Calls.{Leaves, Reduces, ReducesAll, wholeOutcome, upTo}
-use Rattle.terms.proofs.Ranks.{ranked, or-zero}
+use Rattle.encoding.proofs.Ranks.{ranked, or-zero}
 use Rattle.terms.proofs.Finished.{canonicalized-all-refused}
 
 none-large : (m : ℕ) (l : List ℕ) → ((i : ℕ) → i < length l → getD l i 0 < m) → some (tooLarge m) l ≡ false

@@ -1,4 +1,3 @@
-pub mod Ranks
 pub mod Refused
 pub mod Leaves
 pub mod Work

@@ -6,7 +6,7 @@ use Rattle.encoding.specs.Set.{Mem, count, Sound}
 use Rattle.encoding.specs.Refusals.{some, tooLarge, joined, setTests}
 use Rattle.reduction.specs.Lists.{Distinct, distinct}
 use Rattle.reduction.specs.Demand.{Asked}
-use Rattle.terms.specs.Ranks.{TableLine, line, byRank, numbered}
+use Rattle.encoding.specs.Ranks.{TableLine, line, byRank, numbered}
 
 -- 6: a column number of 2n or above in the order, or a row number of m or above in a list
 abbrev pub largeNumber : ℕ → ℕ → List ℕ → List ℕ → List ℕ → Bool

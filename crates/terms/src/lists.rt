@@ -5,7 +5,7 @@ ghost use Prim.Native.Nat.{_+_, _≤_};
 ghost use lib.ListN.{length};
 ghost use Rattle.encoding.specs.Limits.{maxQubits, maxRows};
 ghost use Rattle.encoding.specs.Refusals.{some, tooLarge};
-ghost use Rattle.terms.specs.Ranks.{byRank};
+ghost use Rattle.encoding.specs.Ranks.{byRank};
 ghost use Rattle.terms.specs.Refused.{repeated as hasRepeat, listLines};
 ghost use Rattle.terms.specs.Work.{Blank};
 use crate::MAX_COLUMNS;

@@ -6,9 +6,9 @@ use mathlib.Core.Bool.{Bool, true, false, cond}
 use mathlib.Core.List.{List, [], _∷_, _++_}
 use Prim.Native.Nat.{ℕ, zero, suc}
 use native.Mathlib.Nat.{suc-ne-zero}
 use Rattle.encoding.specs.Refusals.{faultFrom}
 use Rattle.encoding.proofs.Faults.{orElse}
-use Rattle.terms.specs.Ranks.{TableLine, byRank, numbered}
+use Rattle.encoding.specs.Ranks.{TableLine, byRank, numbered}
 
 -- a line with the number k holds, and none above it
 abbrev pub Given : ℕ → List TableLine → Type 0
