@@ -1,4 +1,5 @@
--- Tests: cases on one, and what the and, the or and the exclusive or of two of them say. Assumes nothing.
+-- Tests: cases on one, and what the and, the or and the exclusive or of two of them say. Each is by its cases, and from a few of them the others
+-- follow. Assumes nothing.
 use mathlib.Core.Path.{_≡_, refl, sym, ap, _∙_}
 use mathlib.Core.Logic.{_⊎_, inl, inr}
 use mathlib.Core.Bool.{Bool, true, false, cond, _&&_, _||_, xor, Bool·beq, false≢true}
@@ -36,6 +37,9 @@ pub and-right : (a b : Bool) → (a && b) ≡ true → b ≡ true
 and-right true b e = e
 and-right false b e = absurd (false≢true e)
 
+pub and-true : (a b : Bool) → (a && b) ≡ true → (a ≡ true) × (b ≡ true)
+and-true a b e = (and-left a b e, and-right a b e)
+
 pub and-both : {a b : Bool} → a ≡ true → b ≡ true → (a && b) ≡ true
 and-both {a} {b} p q = ap (λ x. x && b) p ∙ q
 
@@ -50,6 +54,9 @@ or-true-or false b e = inr e
 pub none-of : (a b : Bool) → (a || b) ≡ false → (a ≡ false) × (b ≡ false)
 none-of true b e = absurd (false≢true (sym e))
 none-of false b e = (refl, e)
+
+pub or-left : {a : Bool} (b : Bool) → a ≡ true → (a || b) ≡ true
+or-left b e = ap (λ (c : Bool). c || b) e
 
 pub or-right : (a : Bool) {b : Bool} → b ≡ true → (a || b) ≡ true
 or-right true e = refl

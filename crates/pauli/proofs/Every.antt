@@ -11,7 +11,7 @@ use Rattle.pauli.specs.Pauli.{Pauli, I, X, Y, Z, ofBits, hasX, hasZ}
 use Rattle.pauli.specs.Row.{eqP}
 use Rattle.pauli.specs.Lists.{everyBelow}
 use Rattle.pauli.proofs.Bools.{T-left, T-right, same-bit}
-use Rattle.pauli.proofs.Scan.{every-at}
+pub use Rattle.pauli.proofs.Scan.{every-at, every-none, every-more, every-not}
 use Rattle.pauli.proofs.GaussRing.{by-parts}
 
 abbrev pub everyP : (Pauli → Bool) → Bool
@@ -78,8 +78,8 @@ pub record Tried (A : Type 0) : Type 0 where
 abbrev pub paulis : Tried Pauli
 paulis = record { all = everyP; at = atP }
 
-abbrev pub bits : Tried Bool
-bits = record { all = everyB; at = atB }
+abbrev pub bools : Tried Bool
+bools = record { all = everyB; at = atB }
 
 module _ {A B : Type 0} (F : Tried A) (G : Tried B) where
   pub at₂ : (f : A → B → Bool) → T (F .all (λ a. G .all (f a))) → (a : A) (b : B) → T (f a b)

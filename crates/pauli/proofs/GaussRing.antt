@@ -1,4 +1,5 @@
--- The Gaussian integers are a commutative ring; powers of i. Assumes nothing.
+-- The Gaussian integers are a commutative ring: each law is one of real and one of imaginary parts, and these are laws of whole numbers, regrouped.
+-- Powers of i go by the exponent mod 4, because the fourth is 1. Assumes nothing.
 use mathlib.Core.Path.{_≡_, refl, sym, ap, ap₂, _∙_}
 use Prim.Native.Nat.{ℕ, zero, suc, _+_, _*_, _/_, _%_}
 use native.Mathlib.Nat.{zero-add, suc-add, suc-mul, div-add-mod'}

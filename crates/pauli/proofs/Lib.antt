@@ -6,8 +6,8 @@ pub mod Scan
 pub mod Every
 pub mod Products
 pub mod Phases
+pub mod OnQubits
 pub mod RowLaws
 pub mod RowTests
-pub mod OnQubits
 pub mod Vectors
 pub mod Meaning

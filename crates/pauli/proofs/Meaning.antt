@@ -19,15 +19,11 @@ use Rattle.pauli.proofs.GaussRing.{⊗-assoc, g1-⊗, ipow-add, minus-i
 use Rattle.pauli.proofs.Lists.{length-each}
 use Rattle.pauli.proofs.Products.{half, product}
 use Rattle.pauli.proofs.Phases.{phases-swap, mul-comm, act-phase, act-mul}
-use Rattle.pauli.proofs.RowLaws.{phase-I, phases-pad, pad-take, pad-mul, bit-mul}
-use Rattle.pauli.proofs.OnQubits.{length-on, on-same, take-same, on-mul, total-on, holding-on, I-on}
+use Rattle.pauli.proofs.RowLaws.{expo-on, phases-pad, pad-take, pad-mul, bit-mul}
+use Rattle.pauli.proofs.OnQubits.{length-on, on-same, take-same, on-mul, holding-on, I-on}
 use Rattle.pauli.proofs.Vectors.{⊗-g0, ⊗-g1, sum-basis, column-is, column-here, basis-here, basis-elsewhere}
 
 -- ---- products
-
--- the exponent of a product is the sum over the n qubits
-expo-on : (n : ℕ) (a b : Row) → phases (onQubits n (a .ps)) (onQubits n (b .ps)) ≡ expo n a b
-expo-on n a b = total-on phase (λ q. refl) phase-I n (a .ps) (b .ps)
 
 -- matrix(a) matrix(b) is i to the phase(a, b) times matrix(ab)
 pub matrix-product : (n : ℕ) (a b : Row)

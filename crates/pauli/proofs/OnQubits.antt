@@ -3,15 +3,26 @@
 use mathlib.Core.Path.{_≡_, refl, sym, ap, ap₂, _∙_}
 use mathlib.Core.Bool.{Bool, false, cond}
 use mathlib.Core.List.{List, [], _∷_}
-use Prim.Native.Nat.{ℕ, zero, suc, _+_}
+use Prim.Native.Nat.{ℕ, zero, suc, _+_, _<_}
 use native.Mathlib.Nat.{suc-inj}
 use native.Mathlib.Omega.{arith}
-use lib.ListN.{length, take}
-use Rattle.pauli.specs.Pauli.{Pauli, I, X, Y, Z, _·_, total, mul}
+use lib.ListN.{length, getD, take}
+use Rattle.pauli.specs.Pauli.{Pauli, I, X, Y, Z, _·_, phase, total, mul}
 use Rattle.pauli.specs.Row.{padMul, eqP}
 use Rattle.pauli.specs.Rows.{holding}
 use Rattle.pauli.specs.Matrix.{onQubits}
-use Rattle.pauli.proofs.RowLaws.{mul-I}
+
+pub mul-I : (p : Pauli) → p · I ≡ p
+mul-I I = refl
+mul-I X = refl
+mul-I Y = refl
+mul-I Z = refl
+
+pub phase-I : (p : Pauli) → phase p I ≡ 0
+phase-I I = refl
+phase-I X = refl
+phase-I Y = refl
+phase-I Z = refl
 
 pub length-on : (n : ℕ) (ps : List Pauli) → length (onQubits n ps) ≡ n
 unfolding onQubits
@@ -32,6 +43,15 @@ take-same zero [] h = refl
 take-same zero (p ∷ ps) h = absurd (omega arith)
 take-same (suc n) [] h = absurd (omega arith)
 take-same (suc n) (p ∷ ps) h = ap (λ (l : List Pauli). p ∷ l) (take-same n ps (suc-inj h))
+
+-- they are given by what stands at each of the n places
+pub on-given : (n : ℕ) (a b : List Pauli) → ((k : ℕ) → k < n → getD a k I ≡ getD b k I) → onQubits n a ≡ onQubits n b
+unfolding onQubits
+on-given zero a b f = refl
+on-given (suc n) [] [] f = refl
+on-given (suc n) [] (q ∷ b) f = ap₂ (λ (r : Pauli) (l : List Pauli). r ∷ l) (f 0 (omega arith)) (on-given n [] b (λ k h. f (suc k) (omega arith)))
+on-given (suc n) (p ∷ a) [] f = ap₂ (λ (r : Pauli) (l : List Pauli). r ∷ l) (f 0 (omega arith)) (on-given n a [] (λ k h. f (suc k) (omega arith)))
+on-given (suc n) (p ∷ a) (q ∷ b) f = ap₂ (λ (r : Pauli) (l : List Pauli). r ∷ l) (f 0 (omega arith)) (on-given n a b (λ k h. f (suc k) (omega arith)))
 
 -- ---- products, qubit by qubit
 
@@ -63,7 +83,7 @@ module _ (v : Pauli → Pauli → ℕ) (left : (q : Pauli) → v I q ≡ 0) (rig
   on-left (suc n) [] = omega (arith, left I, on-left n [])
   on-left (suc n) (q ∷ b) = omega (arith, left q, on-left n b)
 
-  on-right : (n : ℕ) (a : List Pauli) → total v (onQubits n a) (onQubits n []) ≡ 0
+  pub on-right : (n : ℕ) (a : List Pauli) → total v (onQubits n a) (onQubits n []) ≡ 0
   unfolding onQubits
   on-right zero a = refl
   on-right (suc n) [] = omega (arith, right I, on-right n [])

@@ -1,4 +1,5 @@
--- The product of two rows is the product of their matrices. Assumes nothing.
+-- The product of two rows is the product of their matrices. At one qubit by a computed test; a qubit more splits the sum over the middle states in two
+-- halves, from which the entries of that qubit are taken out (`half`). Assumes nothing.
 use mathlib.Core.Path.{_≡_, refl, sym, ap, ap₂, _∙_, fun-ext}
 use mathlib.Core.Bool.{Bool, true, false}
 use mathlib.Core.List.{List, [], _∷_}
@@ -7,23 +8,23 @@ use native.Mathlib.Nat.{suc-inj}
 use native.Mathlib.Omega.{arith}
 use lib.ListN.{length}
 use Rattle.pauli.specs.Gauss.{Gauss, _⊕_, _⊗_, ipow}
-use Rattle.pauli.specs.Matrix.{entry, matrix, sum, times}
+use Rattle.pauli.specs.Matrix.{pauliEntry, matrix, sum, times}
 use Rattle.pauli.specs.Pauli.{Pauli, _·_, phase, mul, phases}
 use Rattle.pauli.proofs.GaussRing.{⊕-⊗, ⊗-⊕, ⊗-four, ipow-add}
-use Rattle.pauli.proofs.Every.{paulis, bits, at₄, eqG, eqG→eq}
+use Rattle.pauli.proofs.Every.{paulis, bools, at₄, eqG, eqG→eq}
 
 -- ---- one qubit
 
 one-product : Pauli → Pauli → Bool → Bool → Bool
-one-product p q a b = eqG (entry p a false ⊗ entry q false b ⊕ entry p a true ⊗ entry q true b) (ipow (phase p q) ⊗ entry (p · q) a b)
+one-product p q a b = eqG (pauliEntry p a false ⊗ pauliEntry q false b ⊕ pauliEntry p a true ⊗ pauliEntry q true b) (ipow (phase p q) ⊗ pauliEntry (p · q) a b)
 
 -- the sixteen products, against the 2x2 matrices
 pub one-qubit-products : (p q : Pauli) (a b : Bool)
-    → entry p a false ⊗ entry q false b ⊕ entry p a true ⊗ entry q true b ≡ ipow (phase p q) ⊗ entry (p · q) a b
+    → pauliEntry p a false ⊗ pauliEntry q false b ⊕ pauliEntry p a true ⊗ pauliEntry q true b ≡ ipow (phase p q) ⊗ pauliEntry (p · q) a b
 unfolding one-product
 one-qubit-products p q a b =
-    eqG→eq (entry p a false ⊗ entry q false b ⊕ entry p a true ⊗ entry q true b) (ipow (phase p q) ⊗ entry (p · q) a b)
-    (at₄ paulis paulis bits bits one-product tt p q a b)
+    eqG→eq (pauliEntry p a false ⊗ pauliEntry q false b ⊕ pauliEntry p a true ⊗ pauliEntry q true b) (ipow (phase p q) ⊗ pauliEntry (p · q) a b)
+    (at₄ paulis paulis bools bools one-product tt p q a b)
 
 -- ---- sums
 
@@ -54,9 +55,9 @@ product (p ∷ ps) (q ∷ qs) (a ∷ r) (b ∷ c) h₁ h₂ h₃ =
     let n = length ps in
     let rest = times n (matrix ps) (matrix qs) r c in
     ap₂ (λ (x y : Gauss). x ⊕ y)
-    (half n (entry p a false) (entry q false b) (matrix ps r) (λ s. matrix qs s c))
-    (half n (entry p a true) (entry q true b) (matrix ps r) (λ s. matrix qs s c))
-    ∙ sym (⊕-⊗ (entry p a false ⊗ entry q false b) (entry p a true ⊗ entry q true b) rest)
+    (half n (pauliEntry p a false) (pauliEntry q false b) (matrix ps r) (λ s. matrix qs s c))
+    (half n (pauliEntry p a true) (pauliEntry q true b) (matrix ps r) (λ s. matrix qs s c))
+    ∙ sym (⊕-⊗ (pauliEntry p a false ⊗ pauliEntry q false b) (pauliEntry p a true ⊗ pauliEntry q true b) rest)
     ∙ ap₂ (λ (x y : Gauss). x ⊗ y) (one-qubit-products p q a b) (product ps qs r c (suc-inj h₁) (suc-inj h₂) (suc-inj h₃))
-    ∙ ⊗-four (ipow (phase p q)) (entry (p · q) a b) (ipow (phases ps qs)) (matrix (mul ps qs) r c)
-    ∙ ap (λ (x : Gauss). x ⊗ (entry (p · q) a b ⊗ matrix (mul ps qs) r c)) (sym (ipow-add (phase p q) (phases ps qs)))
+    ∙ ⊗-four (ipow (phase p q)) (pauliEntry (p · q) a b) (ipow (phases ps qs)) (matrix (mul ps qs) r c)
+    ∙ ap (λ (x : Gauss). x ⊗ (pauliEntry (p · q) a b ⊗ matrix (mul ps qs) r c)) (sym (ipow-add (phase p q) (phases ps qs)))

@@ -1,4 +1,5 @@
--- Rows of Paulis: bits of a product, associativity, and exponents that go by the bits, with no premise on lengths. Assumes nothing.
+-- Rows of Paulis: bits of a product, associativity, and exponents that go by the bits, with no premise on lengths: past its end a list goes on with I, and
+-- I changes no bit and no exponent. Assumes nothing.
 use mathlib.Core.Path.{_≡_, refl, sym, ap, ap₂, _∙_}
 use mathlib.Core.Bool.{Bool, true, false, cond, xor}
 use mathlib.Core.List.{List, [], _∷_}
@@ -9,32 +10,23 @@ use native.Mathlib.Omega.{arith}
 use lib.Dec.{ltb}
 use lib.ListN.{length, getD, take}
 use borrow.Author.Tests.{lt-ltb, le-ltb}
-use Rattle.pauli.specs.Pauli.{Pauli, I, X, Y, Z, _·_, phase, phases, ofBits, hasX, hasZ, mul}
+use Rattle.pauli.specs.Pauli.{Pauli, I, _·_, phase, phases, ofBits, hasX, hasZ, mul}
+use Rattle.pauli.specs.Matrix.{onQubits}
 use Rattle.pauli.specs.Row.{Row, eqP, padMul, expo, mulRow, bitOf, bitRow}
 use Rattle.pauli.proofs.Bools.{xor-assoc}
 pub use Rattle.pauli.proofs.Every.{both-of}
-use Rattle.pauli.proofs.Every.{bits, at₄, same-pauli}
+use Rattle.pauli.proofs.Every.{bools, at₄, same-pauli}
+pub use Rattle.pauli.proofs.OnQubits.{mul-I, phase-I}
+use Rattle.pauli.proofs.OnQubits.{on-given, on-right, total-on}
 use Rattle.pauli.proofs.Phases.{phases-assoc}
 
 -- ---- one qubit
-
-pub mul-I : (p : Pauli) → p · I ≡ p
-mul-I I = refl
-mul-I X = refl
-mul-I Y = refl
-mul-I Z = refl
-
-pub phase-I : (p : Pauli) → phase p I ≡ 0
-phase-I I = refl
-phase-I X = refl
-phase-I Y = refl
-phase-I Z = refl
 
 -- the four Paulis are the pairs of bits, and the product adds the bits
 of-mul : (a b c d : Bool) → ofBits a b · ofBits c d ≡ ofBits (xor a c) (xor b d)
 unfolding xor
 of-mul a b c d =
-    same-pauli (ofBits a b · ofBits c d) (ofBits (xor a c) (xor b d)) (at₄ bits bits bits bits (λ a b c d. eqP (ofBits a b · ofBits c d) (ofBits (xor a c) (xor b d))) tt a b c d)
+    same-pauli (ofBits a b · ofBits c d) (ofBits (xor a c) (xor b d)) (at₄ bools bools bools bools (λ a b c d. eqP (ofBits a b · ofBits c d) (ofBits (xor a c) (xor b d))) tt a b c d)
 
 pub hasX-of : (a b : Bool) → hasX (ofBits a b) ≡ a
 hasX-of false false = refl
@@ -97,38 +89,9 @@ phases-pad (x ∷ a) [] c = refl
 phases-pad (x ∷ a) (y ∷ b) [] = omega arith
 phases-pad (x ∷ a) (y ∷ b) (z ∷ c) = omega (arith, phases-assoc (x ∷ []) (y ∷ []) (z ∷ []) refl refl, phases-pad a b c)
 
--- the exponent is read off the first n qubits
-sum : ℕ → List Pauli → List Pauli → ℕ
-sum zero a b = 0
-sum (suc n) a b = sum n a b + phase (getD a n I) (getD b n I)
-
-sum-nil-l : (n : ℕ) (b : List Pauli) → sum n [] b ≡ 0
-unfolding sum
-sum-nil-l zero b = refl
-sum-nil-l (suc n) b = omega (arith, sum-nil-l n b)
-
-sum-nil-r : (n : ℕ) (a : List Pauli) → sum n a [] ≡ 0
-unfolding sum
-sum-nil-r zero a = refl
-sum-nil-r (suc n) a = omega (arith, sum-nil-r n a, phase-I (getD a n I))
-
-sum-cons : (n : ℕ) (p q : Pauli) (a b : List Pauli) → sum (suc n) (p ∷ a) (q ∷ b) ≡ phase p q + sum n a b
-unfolding sum
-sum-cons zero p q a b = omega arith
-sum-cons (suc n) p q a b = omega (arith, sum-cons n p q a b)
-
-phases-sum : (n : ℕ) (a b : List Pauli) → phases (take n a) (take n b) ≡ sum n a b
-unfolding sum
-phases-sum zero a b = refl
-phases-sum (suc n) [] b = sym (sum-nil-l (suc n) b)
-phases-sum (suc n) (p ∷ a) [] = sym (sum-nil-r (suc n) (p ∷ a))
-phases-sum (suc n) (p ∷ a) (q ∷ b) = ap (λ (m : ℕ). phase p q + m) (phases-sum n a b) ∙ sym (sum-cons n p q a b)
-
-sum-same : (n : ℕ) (a a′ b b′ : List Pauli) → ((k : ℕ) → k < n → getD a k I ≡ getD a′ k I) → ((k : ℕ) → k < n → getD b k I ≡ getD b′ k I) → sum n a b ≡ sum n a′ b′
-unfolding sum
-sum-same zero a a′ b b′ f g = refl
-sum-same (suc n) a a′ b b′ f g =
-    ap₂ (λ (x y : ℕ). x + y) (sum-same n a a′ b b′ (λ k h. f k (omega arith)) (λ k h. g k (omega arith))) (ap₂ phase (f n (omega arith)) (g n (omega arith)))
+-- it is the sum over the n qubits
+pub expo-on : (n : ℕ) (a b : Row) → phases (onQubits n (a .ps)) (onQubits n (b .ps)) ≡ expo n a b
+expo-on n a b = total-on phase (λ q. refl) phase-I n (a .ps) (b .ps)
 
 -- ---- columns
 
@@ -207,9 +170,9 @@ mul-assoc n a b c =
 
 pub expo-bits : (n : ℕ) (a a′ b b′ : Row) → ((c : ℕ) → c < n + n → bitRow n a c ≡ bitRow n a′ c) → ((c : ℕ) → c < n + n → bitRow n b c ≡ bitRow n b′ c) → expo n a b ≡ expo n a′ b′
 expo-bits n a a′ b b′ f g =
-    phases-sum n (a .ps) (b .ps)
-    ∙ sum-same n (a .ps) (a′ .ps) (b .ps) (b′ .ps) (same-bits n (a .ps) (a′ .ps) f) (same-bits n (b .ps) (b′ .ps) g)
-    ∙ sym (phases-sum n (a′ .ps) (b′ .ps))
+    sym (expo-on n a b)
+    ∙ ap₂ phases (on-given n (a .ps) (a′ .ps) (same-bits n (a .ps) (a′ .ps) f)) (on-given n (b .ps) (b′ .ps) (same-bits n (b .ps) (b′ .ps) g))
+    ∙ expo-on n a′ b′
 
 pub no-bits : (n c : ℕ) → bitOf n [] c ≡ false
 unfolding bitOf
@@ -222,9 +185,9 @@ no-bits n c = go (ltb c n)
 -- the exponent is 0 where the right row has no bit set
 pub expo-none : (n : ℕ) (a b : Row) → ((c : ℕ) → c < n + n → bitRow n b c ≡ false) → expo n a b ≡ 0
 expo-none n a b e =
-    phases-sum n (a .ps) (b .ps)
-    ∙ sum-same n (a .ps) (a .ps) (b .ps) [] (λ k h. refl) (same-bits n (b .ps) [] (λ c h. e c h ∙ sym (no-bits n c)))
-    ∙ sum-nil-r n (a .ps)
+    sym (expo-on n a b)
+    ∙ ap (phases (onQubits n (a .ps))) (on-given n (b .ps) [] (same-bits n (b .ps) [] (λ c h. e c h ∙ sym (no-bits n c))))
+    ∙ on-right phase (λ q. refl) phase-I n (a .ps)
 
 -- on lists of the same length the padded product is the product
 pub pad-mul : (a b : List Pauli) → length b ≡ length a → padMul a b ≡ mul a b

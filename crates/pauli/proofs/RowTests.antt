@@ -1,4 +1,5 @@
--- The tests on two rows: the same Paulis at each qubit, and commuting, which goes in either order. Assumes nothing.
+-- The tests on two rows: the same Paulis at each qubit, and commuting, which goes in either order. The first is a test below n, the second a sum over the
+-- qubits of what is at most 1 and the same both ways. Assumes nothing.
 use mathlib.Core.Path.{_≡_, refl, sym, ap, ap₂, _∙_, subst}
 use mathlib.Core.Bool.{true}
 use mathlib.Core.List.{List, [], _∷_}

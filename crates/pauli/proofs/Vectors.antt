@@ -1,4 +1,5 @@
--- What the matrix of a list of Paulis does to the vector of a basis state. Assumes nothing.
+-- What the matrix of a list of Paulis does to the vector of a basis state: it gives the column of that state (`sum-basis`), and a column has one entry that
+-- is not 0, at the new state, which is the power of i that the action has (`column-is`). Assumes nothing.
 use mathlib.Core.Path.{_≡_, refl, sym, ap, ap₂, _∙_}
 use mathlib.Core.Bool.{Bool, true, false, cond, _&&_, Bool·beq, false≢true}
 use mathlib.Core.List.{List, [], _∷_}
@@ -9,11 +10,11 @@ use lib.IntN.{+ℤ-idl, +ℤ-idr}
 use lib.ListN.{length}
 use Rattle.pauli.specs.Gauss.{Gauss, _⊕_, _⊗_, g0, g1, ipow}
 use Rattle.pauli.specs.Pauli.{Pauli, turn, turnPhase, act, actPhase}
-use Rattle.pauli.specs.Matrix.{entry, matrix, sum, sameState, basis}
+use Rattle.pauli.specs.Matrix.{pauliEntry, matrix, sum, sameState, basis}
 use Rattle.pauli.proofs.GaussRing.{by-parts, ⊗-comm, ⊗-four, g1-⊗, g0-⊗, ipow-add}
 use Rattle.pauli.proofs.Lists.{length-each}
 use Rattle.pauli.proofs.Products.{sum-ext}
-use Rattle.pauli.proofs.Every.{paulis, bits, at₃, eqG, eqG→eq}
+use Rattle.pauli.proofs.Every.{paulis, bools, at₃, eqG, eqG→eq}
 
 pub ⊗-g0 : (u : Gauss) → u ⊗ g0 ≡ g0
 ⊗-g0 u = ⊗-comm u g0 ∙ g0-⊗ u
@@ -74,13 +75,13 @@ sum-basis (suc n) f (true ∷ s) h =
 -- ---- the column of a list of Paulis
 
 one-rule : Pauli → Bool → Bool → Bool
-one-rule p a b = eqG (entry p a b) (ipow (turnPhase p b) ⊗ cond (Bool·beq (turn p b) a) g1 g0)
+one-rule p a b = eqG (pauliEntry p a b) (ipow (turnPhase p b) ⊗ cond (Bool·beq (turn p b) a) g1 g0)
 
-one : (p : Pauli) (a b : Bool) → entry p a b ≡ ipow (turnPhase p b) ⊗ cond (Bool·beq (turn p b) a) g1 g0
+one : (p : Pauli) (a b : Bool) → pauliEntry p a b ≡ ipow (turnPhase p b) ⊗ cond (Bool·beq (turn p b) a) g1 g0
 unfolding one-rule
 one p a b =
-    eqG→eq (entry p a b) (ipow (turnPhase p b) ⊗ cond (Bool·beq (turn p b) a) g1 g0)
-    (at₃ paulis bits bits one-rule tt p a b)
+    eqG→eq (pauliEntry p a b) (ipow (turnPhase p b) ⊗ cond (Bool·beq (turn p b) a) g1 g0)
+    (at₃ paulis bools bools one-rule tt p a b)
 
 both : (b : Bool) (s r : List Bool) → cond b g1 g0 ⊗ basis s r ≡ cond (b && sameState s r) g1 g0
 both true s r = g1-⊗ (basis s r)

@@ -10,23 +10,23 @@ use Rattle.pauli.specs.Pauli.{Pauli, I, X, Y, Z}
 use Rattle.pauli.specs.Row.{Row}
 
 -- the entry of a Pauli's matrix in a row and a column
-abbrev pub entry : Pauli → Bool → Bool → Gauss
-entry I false false = g1
-entry I false true = g0
-entry I true false = g0
-entry I true true = g1
-entry X false false = g0
-entry X false true = g1
-entry X true false = g1
-entry X true true = g0
-entry Y false false = g0
-entry Y false true = minus gi
-entry Y true false = gi
-entry Y true true = g0
-entry Z false false = g1
-entry Z false true = g0
-entry Z true false = g0
-entry Z true true = minus g1
+abbrev pub pauliEntry : Pauli → Bool → Bool → Gauss
+pauliEntry I false false = g1
+pauliEntry I false true = g0
+pauliEntry I true false = g0
+pauliEntry I true true = g1
+pauliEntry X false false = g0
+pauliEntry X false true = g1
+pauliEntry X true false = g1
+pauliEntry X true true = g0
+pauliEntry Y false false = g0
+pauliEntry Y false true = minus gi
+pauliEntry Y true false = gi
+pauliEntry Y true true = g0
+pauliEntry Z false false = g1
+pauliEntry Z false true = g0
+pauliEntry Z true false = g0
+pauliEntry Z true true = minus g1
 
 -- a matrix on n qubits: an entry for each two basis states
 abbrev pub Matrix : Type 0
@@ -37,7 +37,7 @@ abbrev pub matrix : List Pauli → Matrix
 matrix [] r c = g1
 matrix (p ∷ ps) [] c = g0
 matrix (p ∷ ps) (a ∷ r) [] = g0
-matrix (p ∷ ps) (a ∷ r) (b ∷ c) = entry p a b ⊗ matrix ps r c
+matrix (p ∷ ps) (a ∷ r) (b ∷ c) = pauliEntry p a b ⊗ matrix ps r c
 
 -- the sum over all basis states of n qubits
 abbrev pub sum : ℕ → (List Bool → Gauss) → Gauss

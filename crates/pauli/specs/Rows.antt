@@ -5,7 +5,7 @@ use mathlib.Core.List.{List, [], _∷_}
 use Prim.Native.Nat.{ℕ, suc, _+_, _-_, _%_}
 use lib.Dec.{eqb}
 use lib.ListN.{take, set}
-pub use Rattle.pauli.specs.Lists.{everyBelow}
+unfoldable pub use Rattle.pauli.specs.Lists.{everyBelow}
 use Rattle.pauli.specs.Pauli.{Pauli, I, X, Y, Z, act, actPhase, clashes}
 use Rattle.pauli.specs.Row.{Row, expo, eqP}
 
