@@ -1,4 +1,5 @@
--- Words are given by their bits; the bits of what was packed; what Paulis lie in words. Assumes nothing.
+-- Words are given by their bits; the bits of what was packed; what Paulis lie in words. A word is its lowest bit and its half, so that each law goes down by
+-- halves, 64 places a word. Assumes nothing.
 use mathlib.Core.Path.{_≡_, refl, sym, ap, ap₂, _∙_}
 use mathlib.Core.Bool.{Bool, false}
 use mathlib.Core.List.{List, [], _∷_, _++_}
@@ -20,6 +21,9 @@ use Rattle.encoding.proofs.Parts.{fit-take, getD-part, row-lay-list}
 -- one half of a word, bit by bit
 pub half-bit : (x k : ℕ) → odd (x / 2 / 2 ^ k) ≡ odd (x / 2 ^ suc k)
 half-bit x k = ap odd (shr-shr x 1 k ∙ ap (λ (e : ℕ). x / 2 ^ e) (one-add k))
+
+pub zero-bit : (k : ℕ) → odd (0 / 2 ^ k) ≡ false
+zero-bit k = ap odd (zero-div (2 ^ k))
 
 module _ {A : Type 0} (f : A → Bool) (d : A) (f0 : f d ≡ false) where
   pub join-of : (n x : ℕ) (ps : List A) → x < 2 ^ n → ((k : ℕ) → k < n → odd (x / 2 ^ k) ≡ f (getD ps k d)) → x ≡ join f (take n ps)

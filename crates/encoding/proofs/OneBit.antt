@@ -1,6 +1,7 @@
--- One bit of a word set or cleared. Assumes nothing.
+-- One bit of a word set or cleared: a mask has one bit (`mask-bit`), so that or and and-not change that bit alone, and two words with the same bits are the
+-- same (`same-bits`). Assumes nothing.
 use mathlib.Core.Path.{_≡_, refl, sym, ap, ap₂, _∙_, subst}
-use mathlib.Core.Bool.{Bool, true, false, cond, not, _||_, _&&_}
+use mathlib.Core.Bool.{Bool, true, false, cond, not, _||_, _&&_, Bool·beq}
 use mathlib.Core.List.{List, [], _∷_}
 use Prim.Native.Nat.{ℕ, zero, suc, _+_, _-_, _*_, _/_, _%_, _^_, _≤_, _<_, zero-le, suc-le-suc}
 use native.Mathlib.Nat.{pow-suc, div-one, not-suc-le-zero, le-of-suc-le-suc}
@@ -10,16 +11,14 @@ use lib.Arith.{lt-one, digits-div, digits-mod}
 use lib.Bits.{bitAnd, bitOr, and-shr, or-shr, and-lt, or-lt}
 use lib.Dec.{eqb, eqb·zero-suc, eqb·suc-zero, eqb·suc-suc}
 use lib.Pow.{shr-shr, pow-pos, pow-lt, ones-sub-lt}
+use Rattle.pauli.proofs.Bools.{same-bit}
+use Rattle.pauli.proofs.Every.{bools, at₂}
 use Rattle.encoding.specs.Words.{odd, bit, withBit}
 use Rattle.encoding.proofs.Odd.{bit-lt, odd-of, and-odd, or-odd, not-odd, not-half}
 use Rattle.encoding.proofs.WordLaws.{half-lt, back}
-use Rattle.encoding.proofs.BitLaws.{half-bit}
+use Rattle.encoding.proofs.BitLaws.{half-bit, zero-bit}
 
 -- the bits of a mask of one bit
-mask-none : (j : ℕ) → odd (0 / 2 ^ j) ≡ false
-mask-none zero = refl
-mask-none (suc j) = sym (half-bit 0 j) ∙ mask-none j
-
 mask-half : (k : ℕ) → 2 ^ suc k / 2 ≡ 2 ^ k
 mask-half k = omega (arith, pow-suc 2 k)
 
@@ -28,7 +27,7 @@ mask-odd k = ap (λ (n : ℕ). eqb n 1) (let e : 2 ^ suc k / 1 % 2 ≡ 0 = omega
 
 pub mask-bit : (k j : ℕ) → odd (2 ^ k / 2 ^ j) ≡ eqb j k
 mask-bit zero zero = refl
-mask-bit zero (suc j) = sym (half-bit 1 j) ∙ mask-none j ∙ sym (eqb·suc-zero j)
+mask-bit zero (suc j) = sym (half-bit 1 j) ∙ zero-bit j ∙ sym (eqb·suc-zero j)
 mask-bit (suc k) zero = mask-odd k ∙ sym (eqb·zero-suc k)
 mask-bit (suc k) (suc j) = sym (half-bit (2 ^ suc k) j) ∙ ap (λ (n : ℕ). odd (n / 2 ^ j)) (mask-half k) ∙ mask-bit k j ∙ sym (eqb·suc-suc j k)
 
@@ -43,16 +42,10 @@ not-bit (suc d) a (suc j) h l =
     ∙ ap not (half-bit a j)
 
 or-cond : (b c : Bool) → (b || c) ≡ cond c true b
-or-cond true true = refl
-or-cond true false = refl
-or-cond false true = refl
-or-cond false false = refl
+or-cond b c = same-bit (b || c) (cond c true b) (at₂ bools bools (λ b c. Bool·beq (b || c) (cond c true b)) tt b c)
 
 and-cond : (b c : Bool) → (b && not c) ≡ cond c false b
-and-cond true true = refl
-and-cond true false = refl
-and-cond false true = refl
-and-cond false false = refl
+and-cond b c = same-bit (b && not c) (cond c false b) (at₂ bools bools (λ b c. Bool·beq (b && not c) (cond c false b)) tt b c)
 
 -- ---- a word is given by its bits
 
@@ -93,7 +86,7 @@ with-lt (suc d) v (suc k) b h l = omega (arith, pow-suc 2 d, bit-lt (odd v), wit
 
 -- ---- as the code does it: with a mask of one bit
 
-mask-is : (k : ℕ) → k < 64 → (1 * 2 ^ k) % 18446744073709551616 ≡ 2 ^ k
+pub mask-is : (k : ℕ) → k < 64 → (1 * 2 ^ k) % 18446744073709551616 ≡ 2 ^ k
 mask-is k h = let l : 2 ^ k < 2 ^ 64 = pow-lt h in omega arith
 
 bit-on : (v k j : ℕ) → odd (bitOr v (2 ^ k) / 2 ^ j) ≡ cond (eqb j k) true (odd (v / 2 ^ j))

@@ -1,10 +1,11 @@
--- One qubit of a row's two parts: reading it, setting it, reading it back. Assumes nothing.
+-- One qubit of a row's two parts: reading it, setting it, reading it back. Qubit q is bit q mod 64 of word q div 64 of each part, and setting it changes
+-- that bit alone, so that every other qubit reads as before. Assumes nothing.
 use mathlib.Core.Path.{_≡_, refl, sym, ap, ap₂, _∙_, subst}
 use mathlib.Core.Logic.{_≢_}
 use mathlib.Core.Bool.{Bool, true, false, cond, _&&_}
 use mathlib.Core.List.{List, [], _∷_, _++_}
 use Prim.Native.Nat.{ℕ, zero, suc, _+_, _-_, _*_, _/_, _%_, _^_, _≤_, _<_, zero-le}
-use native.Mathlib.Nat.{suc-mul, div-add-mod', zero-div}
+use native.Mathlib.Nat.{suc-mul, div-add-mod'}
 use native.Mathlib.Decide.{decLt, ℕ-discrete}
 use native.Mathlib.Omega.{arith}
 use borrow.Author.Tests.{lt-ltb, le-ltb, eq-eqb, ne-eqb}
@@ -17,7 +18,7 @@ use Rattle.pauli.proofs.RowLaws.{both-of}
 use Rattle.encoding.specs.Words.{odd, bitAt, withBit, word, unpack}
 use Rattle.encoding.specs.Set.{within, QubitSet}
 use Rattle.encoding.proofs.WordLaws.{length-word}
-use Rattle.encoding.proofs.BitLaws.{unpack-at}
+use Rattle.encoding.proofs.BitLaws.{zero-bit, unpack-at}
 use Rattle.encoding.proofs.OneBit.{bit-with}
 
 -- ---- reading
@@ -48,9 +49,6 @@ past-z xs zs q h = List·getD-eq-default (unpack xs zs) I (omega (arith, no-long
 pub no-bit : (xs : List ℕ) (j k : ℕ) → length xs ≤ j → bitAt xs j k ≡ false
 unfolding bitAt
 no-bit xs j k h = ap (λ (v : ℕ). odd (v / 2 ^ k)) (List·getD-eq-default xs 0 h) ∙ zero-bit k
-  where
-    zero-bit : (k : ℕ) → odd (0 / 2 ^ k) ≡ false
-    zero-bit k = ap odd (zero-div (2 ^ k))
 
 -- ---- setting
 

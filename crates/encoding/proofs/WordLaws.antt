@@ -1,7 +1,7 @@
 -- What a pair of words holds: each place is a qubit, packing undoes unpacking and the other way round, the exclusive or of words is the product of
 -- their Paulis, and of a state's word the action. Assumes nothing.
 use mathlib.Core.Path.{_≡_, refl, sym, ap, ap₂, _∙_, subst}
-use mathlib.Core.Bool.{Bool, true, false, not}
+use mathlib.Core.Bool.{Bool, true, false, not, Bool·beq}
 use mathlib.Core.List.{List, [], _∷_, _++_}
 use Prim.Native.Nat.{ℕ, zero, suc, _+_, _-_, _*_, _/_, _%_, _^_, _≤_, _<_}
 use native.Mathlib.Nat.{pow-suc, div-one, not-suc-le-zero, le-of-suc-le-suc, suc-inj, add-comm, div-lt-iff-lt-mul, zero-add, add-assoc}
@@ -17,6 +17,9 @@ use mir.Val.{Fits}
 use Rattle.pauli.specs.Pauli.{Pauli, ofBits, hasX, hasZ, each, total, _·_, mul, turn, turnPhase, act, actPhase}
 use Rattle.pauli.specs.declared.PauliMatrix.the-variants.{I, X, Y, Z}
 use Rattle.encoding.specs.Words.{odd, bit, word, bits, unpack, unbits, join, pack}
+use Rattle.pauli.specs.Row.{eqP}
+use Rattle.pauli.proofs.Bools.{same-bit}
+use Rattle.pauli.proofs.Every.{bools, at₃, at₄, same-pauli}
 use Rattle.pauli.proofs.Lists.{each-nil, each-append, total-append}
 use Rattle.pauli.proofs.RowLaws.{hasX-of, hasZ-of, both-of}
 use Rattle.encoding.proofs.Odd.{xorᵇ, bit-lt, bit-odd, odd-of, xor-odd, xor-half}
@@ -83,22 +86,9 @@ word-join (p ∷ ps) =
 -- ---- the exclusive or of words
 
 xor-of : (a b c e : Bool) → ofBits (xorᵇ a c) (xorᵇ b e) ≡ ofBits a b · ofBits c e
-xor-of false false false false = refl
-xor-of false false false true = refl
-xor-of false false true false = refl
-xor-of false false true true = refl
-xor-of false true false false = refl
-xor-of false true false true = refl
-xor-of false true true false = refl
-xor-of false true true true = refl
-xor-of true false false false = refl
-xor-of true false false true = refl
-xor-of true false true false = refl
-xor-of true false true true = refl
-xor-of true true false false = refl
-xor-of true true false true = refl
-xor-of true true true false = refl
-xor-of true true true true = refl
+xor-of a b c e =
+    same-pauli (ofBits (xorᵇ a c) (xorᵇ b e)) (ofBits a b · ofBits c e)
+    (at₄ bools bools bools bools (λ a b c e. eqP (ofBits (xorᵇ a c) (xorᵇ b e)) (ofBits a b · ofBits c e)) tt a b c e)
 
 pub word-mul : (d a b c e : ℕ) → word d (bitXor a c) (bitXor b e) ≡ mul (word d a b) (word d c e)
 unfolding word
@@ -108,14 +98,7 @@ word-mul (suc d) a b c e =
     (ap₂ (word d) (xor-half a c) (xor-half b e) ∙ word-mul d (a / 2) (b / 2) (c / 2) (e / 2))
 
 turn-of : (a b r : Bool) → xorᵇ a r ≡ turn (ofBits a b) r
-turn-of false false false = refl
-turn-of false false true = refl
-turn-of false true false = refl
-turn-of false true true = refl
-turn-of true false false = refl
-turn-of true false true = refl
-turn-of true true false = refl
-turn-of true true true = refl
+turn-of a b r = same-bit (xorᵇ a r) (turn (ofBits a b) r) (at₃ bools bools bools (λ a b r. Bool·beq (xorᵇ a r) (turn (ofBits a b) r)) tt a b r)
 
 pub bits-act : (d a b r : ℕ) → bits d (bitXor a r) ≡ act (word d a b) (bits d r)
 unfolding word bits

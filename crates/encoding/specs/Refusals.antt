@@ -5,6 +5,7 @@ use mathlib.Core.List.{List, [], _∷_}
 use Prim.Native.Nat.{ℕ, zero, suc, _*_}
 use lib.Dec.{eqb, leb, ltb}
 use lib.ListN.{length, drop}
+unfoldable pub use Rattle.pauli.specs.Lists.{some, someBelow}
 use Rattle.pauli.specs.Pauli.{Pauli, hasX, hasZ}
 use Rattle.encoding.specs.Limits.{maxQubits, maxRows, maxPhase, wordsOf}
 use Rattle.encoding.specs.Words.{unpack, unbits}
@@ -35,16 +36,6 @@ least (suc a) zero = suc a
 least (suc a) (suc b) = cond (ltb (suc a) (suc b)) (suc a) (suc b)
 
 -- ---- the tests of a row set
-
--- some number below m passes the test
-unfoldable pub someBelow : ℕ → (ℕ → Bool) → Bool
-someBelow zero f = false
-someBelow (suc m) f = someBelow m f || f m
-
--- some element of the list passes the test
-unfoldable pub some : {A : Type 0} → (A → Bool) → List A → Bool
-some f [] = false
-some f (a ∷ l) = f a || some f l
 
 -- a qubit with a bit set
 abbrev pub isOn : Pauli → Bool

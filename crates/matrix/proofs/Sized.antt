@@ -1,4 +1,5 @@
--- Sizes that fit. Assumes nothing.
+-- Sizes that fit: the test is an and of five, so that it is true where all five are, and each can be read off it.
+-- Assumes nothing.
 use mathlib.Core.Path.{_≡_}
 use mathlib.Core.Bool.{true, _&&_}
 use mathlib.Core.List.{List}

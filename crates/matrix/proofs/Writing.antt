@@ -1,4 +1,4 @@
--- What a loop wrote, one value at a place after the other. The loop keeps `Wrote from i`: no later place is one of the earlier, so a value that stands
+-- What a loop wrote, one value at a place after the other. The loop keeps `Placed from i`: no later place is one of the earlier, so a value that stands
 -- stays, and what is at no place stays as it was. Assumes nothing.
 use mathlib.Core.Path.{_≡_, refl, sym, ap, _∙_, subst}
 use mathlib.Core.List.{List}
@@ -11,7 +11,7 @@ use lib.ListN.{length, getD, set, length-set}
 use lib.Seq.{getD-set-same, getD-set-other}
 use Rattle.encoding.specs.Limits.{maxRows}
 use Rattle.encoding.proofs.Parts.{row-end}
-use Rattle.matrix.specs.Workers.{wide, Wrote}
+use Rattle.matrix.specs.Workers.{wide, Placed}
 
 -- ---- places
 
@@ -32,11 +32,11 @@ one-word v i k {a} {b} ha hb e = sym (digits-mod i ha) ∙ ap (λ (n : ℕ). n %
 
 -- ---- the loop
 
-pub wrote-none : (from : ℕ) (place value : ℕ → ℕ) (old : List ℕ) → Wrote from from place value old old
+pub wrote-none : (from : ℕ) (place value : ℕ → ℕ) (old : List ℕ) → Placed from from place value old old
 wrote-none from place value old = record { long = refl; here = λ i g l. absurd (let z : 1 ≤ 0 = omega (arith, l, g) in not-suc-le-zero z); other = λ p n. refl }
 
-pub wrote-more : {from i : ℕ} {place value : ℕ → ℕ} {old t : List ℕ} (p x : ℕ) → Wrote from i place value old t → from ≤ i → p < length old → p ≡ place i → x ≡ value i
-    → ((r : ℕ) → from ≤ r → r < i → place r ≡ p → ⊥) → Wrote from (i + 1) place value old (set t p x)
+pub wrote-more : {from i : ℕ} {place value : ℕ → ℕ} {old t : List ℕ} (p x : ℕ) → Placed from i place value old t → from ≤ i → p < length old → p ≡ place i → x ≡ value i
+    → ((r : ℕ) → from ≤ r → r < i → place r ≡ p → ⊥) → Placed from (i + 1) place value old (set t p x)
 wrote-more {from} {i} {place} {value} {old} {t} p x g f l e v n =
     record {
       long = length-set t p x ∙ g .long;
@@ -50,5 +50,5 @@ wrote-more {from} {i} {place} {value} {old} {t} p x g f l e v n =
           ∙ g .other q (λ r a b. k r a (omega (arith, b)));
     }
 
-pub wrote-all : {from to i : ℕ} {place value : ℕ → ℕ} {old t : List ℕ} → Wrote from i place value old t → i ≤ to → to ≤ i → Wrote from to place value old t
-wrote-all {from} {to} {i} {place} {value} {old} {t} g h k = subst (λ (n : ℕ). Wrote from n place value old t) (let e : i ≡ to = omega arith in e) g
+pub wrote-all : {from to i : ℕ} {place value : ℕ → ℕ} {old t : List ℕ} → Placed from i place value old t → i ≤ to → to ≤ i → Placed from to place value old t
+wrote-all {from} {to} {i} {place} {value} {old} {t} g h k = subst (λ (n : ℕ). Placed from n place value old t) (let e : i ≡ to = omega arith in e) g

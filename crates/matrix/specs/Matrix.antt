@@ -7,7 +7,7 @@ use lib.Dec.{eqb, leb, ltb}
 use lib.ListN.{length, getD}
 use Rattle.encoding.specs.Limits.{maxRows, maxWords, wordsOf}
 use Rattle.encoding.proofs.Odd.{xorᵇ}
-use Rattle.tables.specs.Tables.{bitOf, dot}
+use Rattle.tables.specs.Tables.{wordBit, dot}
 
 -- whether f holds at an odd number of the numbers below k
 unfoldable pub parity : ℕ → (ℕ → Bool) → Bool
@@ -30,5 +30,5 @@ sized w m x z o = leb w maxWords && (leb m maxRows && ((eqb x (m * w) && eqb z (
 -- fill: the matrix, of m rows of v words; where the sizes do not fit, nothing is done
 pub record Filled (w m v : ℕ) (xs zs out out′ : List ℕ) : Type 0 where
   pub done : sized w m (length xs) (length zs) (length out) ≡ true
-      → (i a j : ℕ) → i < m → a < v → j < 64 → bitOf (getD out′ (i * v + a) 0) j ≡ agree m w xs zs w i (a * 64 + j)
+      → (i a j : ℕ) → i < m → a < v → j < 64 → wordBit (getD out′ (i * v + a) 0) j ≡ agree m w xs zs w i (a * 64 + j)
   pub kept : sized w m (length xs) (length zs) (length out) ≡ false → out′ ≡ out

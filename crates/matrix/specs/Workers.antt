@@ -9,7 +9,7 @@ use lib.ListN.{length, getD}
 use Rattle.encoding.specs.Limits.{maxRows, maxWords, wordsOf}
 use Rattle.encoding.specs.Set.{list}
 use Rattle.encoding.proofs.Odd.{xorᵇ}
-use Rattle.tables.specs.Tables.{bitOf, dot, Tabled}
+use Rattle.tables.specs.Tables.{wordBit, dot, Tabled}
 use Rattle.matrix.specs.Matrix.{agree}
 
 -- m rows of w words, within the limits
@@ -25,7 +25,7 @@ wide = maxWords + wordsOf maxRows
 
 -- ---- what a loop wrote: value i at place i, for i from `from` up to `to`, and nothing else
 
-pub record Wrote (from to : ℕ) (place value : ℕ → ℕ) (old new : List ℕ) : Type 0 where
+pub record Placed (from to : ℕ) (place value : ℕ → ℕ) (old new : List ℕ) : Type 0 where
   pub long : length new ≡ length old
   pub here : (i : ℕ) → from ≤ i → i < to → getD new (place i) 0 ≡ value i
   pub other : (p : ℕ) → ((i : ℕ) → from ≤ i → i < to → p ≡ place i → ⊥) → getD new p 0 ≡ getD old p 0
@@ -53,27 +53,27 @@ abbrev pub source : List ℕ → ℕ → ℕ → ℕ → List ℕ
 source b w first k = list 64 (wordAt b w first k)
 
 -- the parities of word k of each row of a, from row first on, with the source words are added
-pub record Added (a s : List ℕ) (w m first k : ℕ) (old new : List ℕ) : Type 0 where
+pub record PartAdded (a s : List ℕ) (w m first k : ℕ) (old new : List ℕ) : Type 0 where
   pub at : (i j : ℕ) → first ≤ i → i < m → j < 64
-      → bitOf (getD new i 0) j ≡ xorᵇ (bitOf (getD old i 0) j) (dot 64 (getD a (i * w + k) 0) (getD s j 0))
+      → wordBit (getD new i 0) j ≡ xorᵇ (wordBit (getD old i 0) j) (dot 64 (getD a (i * w + k) 0) (getD s j 0))
 
 -- the same for whatever the tables are of
-pub record AddedBy (t a : List ℕ) (w m first k : ℕ) (old new : List ℕ) : Type 0 where
-  pub of : (s : List ℕ) → Tabled s t → Added a s w m first k old new
+pub record TableAdded (t a : List ℕ) (w m first k : ℕ) (old new : List ℕ) : Type 0 where
+  pub of : (s : List ℕ) → Tabled s t → PartAdded a s w m first k old new
 
 -- the places of the 64 columns from first on that a matrix of m columns has
 pub record Mask (m first v : ℕ) : Type 0 where
-  pub at : (j : ℕ) → j < 64 → bitOf v j ≡ ltb (first + j) m
+  pub at : (j : ℕ) → j < 64 → wordBit v j ≡ ltb (first + j) m
 
 -- k words are summed, of the rows from first on
 pub record Summed (w m first : ℕ) (xs zs : List ℕ) (k : ℕ) (sums : List ℕ) : Type 0 where
-  pub at : (i j : ℕ) → first ≤ i → i < m → j < 64 → bitOf (getD sums i 0) j ≡ agree m w xs zs k i (first + j)
+  pub at : (i j : ℕ) → first ≤ i → i < m → j < 64 → wordBit (getD sums i 0) j ≡ agree m w xs zs k i (first + j)
 
 -- ---- how much of the matrix is there
 
 -- word e of row i is as it has to be wherever P i e
-pub record Right (w m v : ℕ) (xs zs : List ℕ) (P : ℕ → ℕ → Type 0) (out : List ℕ) : Type 0 where
-  pub at : (i e j : ℕ) → i < m → e < v → j < 64 → P i e → bitOf (getD out (i * v + e) 0) j ≡ agree m w xs zs w i (e * 64 + j)
+pub record RightWhere (w m v : ℕ) (xs zs : List ℕ) (P : ℕ → ℕ → Type 0) (out : List ℕ) : Type 0 where
+  pub at : (i e j : ℕ) → i < m → e < v → j < 64 → P i e → wordBit (getD out (i * v + e) 0) j ≡ agree m w xs zs w i (e * 64 + j)
 
 -- the first n columns of words, from the diagonal down
 abbrev pub Down : ℕ → ℕ → ℕ → Type 0
@@ -85,4 +85,4 @@ Known b a i e = (e * 64 ≤ i) ⊎ ((e < b) ⊎ ((e ≡ b) × (i < a * 64)))
 
 -- whatever the rows: where there was P of their matrix there is Q
 pub record Moved (m v : ℕ) (P Q : ℕ → ℕ → Type 0) (old new : List ℕ) : Type 0 where
-  pub by : (w : ℕ) (xs zs : List ℕ) → Sizes w m xs zs → Right w m v xs zs P old → Right w m v xs zs Q new
+  pub by : (w : ℕ) (xs zs : List ℕ) → Sizes w m xs zs → RightWhere w m v xs zs P old → RightWhere w m v xs zs Q new
