@@ -4,15 +4,15 @@ use mathlib.Core.Path.{_≡_, refl, sym, ap, _∙_, subst}
 use mathlib.Core.Bool.{false}
 use mathlib.Core.List.{List}
 use Prim.Native.Nat.{ℕ, _≤_, _<_}
-use native.Mathlib.Decide.{decLt, ℕ-discrete}
+use native.Mathlib.Decide.{decLt}
 use native.Mathlib.Omega.{arith}
 use borrow.Author.Tests.{ltb-false, le-ltb}
 use lib.Dec.{ltb}
-use lib.ListN.{length, getD, set, length-set, List·getD-eq-default}
+use lib.ListN.{length, getD, length-set, List·getD-eq-default}
 use lib.Seq.{ext-getD, getD-set-same, getD-set-other}
 use Rattle.encoding.specs.Limits.{maxPhase}
 use Rattle.encoding.specs.Set.{list, phaseUnits, exponentAt, layExponents, withExponent}
-use Rattle.encoding.specs.Refusals.{some, badPhases}
+use Rattle.encoding.specs.Refusals.{badPhases}
 use Rattle.encoding.proofs.Parts.{length-list, getD-list}
 use Rattle.encoding.proofs.Scan.{some-none, some-never}
 

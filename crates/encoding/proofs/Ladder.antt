@@ -10,7 +10,7 @@ use lib.ListN.{length, getD, drop}
 use Rattle.encoding.specs.Limits.{maxQubits, maxRows, wordsOf}
 use Rattle.encoding.specs.Words.{word, unbits}
 use Rattle.encoding.specs.Set.{Mem, count, phaseUnits, Valid}
-use Rattle.encoding.specs.Refusals.{faultFrom, fault, some, isOn, badLengths, otherLength, badBits, badPhases, setTests, outTests, stateTests}
+use Rattle.encoding.specs.Refusals.{faultFrom, fault, some, isOn, badLengths, badBits, badPhases, setTests, outTests, stateTests}
 use Rattle.encoding.proofs.WordLaws.{Fit}
 use Rattle.encoding.proofs.Spare.{spare-none, spare-last}
 use Rattle.encoding.proofs.States.{state-spare}

@@ -7,9 +7,8 @@ use Prim.Native.Nat.{ℕ, _+_, _-_, _*_, _≤_, _<_}
 use native.Mathlib.Decide.{decLt}
 use native.Mathlib.Omega.{arith}
 use borrow.Author.Tests.{ltb-false}
-use lib.Dec.{ltb}
 use lib.ListN.{length, getD, take, drop, List·getD-eq-default}
-use lib.Seq.{ext-getD, getD-drop}
+use lib.Seq.{getD-drop}
 use Rattle.pauli.specs.Pauli.{Pauli, hasX, hasZ}
 use Rattle.pauli.specs.declared.PauliMatrix.the-variants.{I}
 use Rattle.pauli.specs.Row.{Row}
@@ -25,7 +24,7 @@ use Rattle.encoding.proofs.Parts.{row-long, fit-part, rows-ext, row-lay
 use Rattle.encoding.proofs.Scan.{any-none}
 use Rattle.encoding.proofs.Spare.{off-all}
 use Rattle.encoding.proofs.Faults.{no-test, set-lengths}
-use Rattle.encoding.proofs.Exponents.{Laid, laid-from, laid-again, exponent-laid, exponent-past, small-exponents}
+use Rattle.encoding.proofs.Exponents.{laid-from, laid-again, exponent-laid, exponent-past, small-exponents}
 
 -- ---- a row is packed when its words fit and its bits at n and above are zero
 
