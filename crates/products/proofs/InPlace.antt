@@ -1,7 +1,8 @@
--- A row of a set is multiplied in place by a row of the same set: what its loop keeps. Assumes nothing.
+-- A row of a set is multiplied in place by a row of the same set: words below i of the target's part are the product's, and all else is as it was
+-- (`Inplace`). The two parts are the same or apart, so word i of both is still the old one when it is its turn. Assumes nothing.
 use mathlib.Core.Path.{_≡_, refl, sym, ap, ap₂, _∙_, subst}
 use mathlib.Core.Logic.{_⊎_, inl, inr}
-use mathlib.Core.Bool.{Bool, true, false, _&&_, _||_}
+use mathlib.Core.Bool.{Bool, true, false, _&&_, _||_, false≢true}
 use lib.Dec.{eqb, leb}
 use borrow.Author.Tests.{leb-true, eqb-true, eq-eqb, le-leb, lt-leb}
 use mathlib.Core.List.{List, [], _∷_, _++_}
@@ -16,6 +17,7 @@ use lib.Pow.{pow-pos}
 use lib.Seq.{getD-take, getD-drop, take-set-lt, drop-set-add, take-set-le, drop-set-lt}
 use lib.Count.{ones}
 use Rattle.pauli.specs.Pauli.{phases, clashes}
+use Rattle.pauli.proofs.Bools.{and-true, or-true-or, or-left, or-right}
 use Rattle.products.specs.declared.Factor.{Factor}
 use Rattle.encoding.specs.Words.{word}
 use Rattle.encoding.specs.Set.{part, row}
@@ -122,17 +124,6 @@ lies-in s w x z h k = ap (λ (b : Bool). b && leb (s + w) z) (sym (le-leb (s + w
 pub lies-out : (s w x z : ℕ) → x < s + w → false ≡ (leb (s + w) x && leb (s + w) z)
 lies-out s w x z h = ap (λ (b : Bool). b && leb (s + w) z) (sym (lt-leb (s + w) x h))
 
-pub and-true : (a b : Bool) → (a && b) ≡ true → (a ≡ true) × (b ≡ true)
-and-true true b e = (refl, e)
-and-true false b e = absurd (no e)
-  where
-    no : _≡_ {A = Bool} false true → ⊥
-    no e = let z : _≡_ {A = ℕ} 0 1 = cc in omega arith
-
-or-true : (a b : Bool) → (a || b) ≡ true → (a ≡ true) ⊎ (b ≡ true)
-or-true true b e = inl refl
-or-true false b e = inr e
-
 module _ (w s t : ℕ) (xs zs : List ℕ) where
   pub room-of : (a b c : Bool) → a ≡ (leb (s + w) (length xs) && leb (s + w) (length zs)) → b ≡ (leb (t + w) (length xs) && leb (t + w) (length zs))
       → c ≡ (eqb s t || (leb (s + w) t || leb (t + w) s)) → a ≡ true → b ≡ true → c ≡ true → Room w s t xs zs
@@ -144,12 +135,12 @@ module _ (w s t : ℕ) (xs zs : List ℕ) where
         s-z = leb-true (s + w) (length zs) (p .1);
         t-x = leb-true (t + w) (length xs) (q .0);
         t-z = leb-true (t + w) (length zs) (q .1);
-        apart = ways (or-true (eqb s t) (leb (s + w) t || leb (t + w) s) (sym ec ∙ tc));
+        apart = ways (or-true-or (eqb s t) (leb (s + w) t || leb (t + w) s) (sym ec ∙ tc));
       }
     where
       ways : (eqb s t ≡ true) ⊎ ((leb (s + w) t || leb (t + w) s) ≡ true) → (s ≡ t) ⊎ ((s + w ≤ t) ⊎ (t + w ≤ s))
       ways (inl e) = inl (eqb-true s t e)
-      ways (inr e) = inr (more (or-true (leb (s + w) t) (leb (t + w) s) e))
+      ways (inr e) = inr (more (or-true-or (leb (s + w) t) (leb (t + w) s) e))
         where
           more : (leb (s + w) t ≡ true) ⊎ (leb (t + w) s ≡ true) → (s + w ≤ t) ⊎ (t + w ≤ s)
           more (inl e) = inl (leb-true (s + w) t e)
@@ -172,14 +163,14 @@ module _ (w s t : ℕ) (xs zs : List ℕ) where
   done-in {xs′} {zs′} {e} t₁ q = record { done = λ _. q; x-kept = λ f. absurd (no f); z-kept = λ f. absurd (no f); none = λ f. absurd (no f) }
     where
       no : inside w s t xs zs ≡ false → ⊥
-      no f = let e : _≡_ {A = Bool} true false = sym t₁ ∙ f in let z : _≡_ {A = ℕ} 0 1 = cc in omega arith
+      no f = false≢true (sym f ∙ t₁)
 
   -- they do not: nothing is done
   pub kept-in : {r : Factor} → r .phase .0 ≡ 0 → r .clashes ≡ 0 → inside w s t xs zs ≡ false → ProductIn w s t xs zs xs zs r
   kept-in ee en f = record { done = λ t₁. absurd (no t₁); x-kept = λ _. refl; z-kept = λ _. refl; none = λ _. record { exponent = ee; number = en } }
     where
       no : inside w s t xs zs ≡ true → ⊥
-      no t₁ = let e : _≡_ {A = Bool} true false = sym t₁ ∙ f in let z : _≡_ {A = ℕ} 0 1 = cc in omega arith
+      no t₁ = false≢true (sym f ∙ t₁)
 
   -- and the other way round
   pub inside-is : Room w s t xs zs → inside w s t xs zs ≡ true
@@ -187,14 +178,7 @@ module _ (w s t : ℕ) (xs zs : List ℕ) where
       ap₂ _&&_ (ap₂ _&&_ (le-leb (s + w) (length xs) (m .s-x)) (le-leb (s + w) (length zs) (m .s-z)))
       (ap₂ _&&_ (ap₂ _&&_ (le-leb (t + w) (length xs) (m .t-x)) (le-leb (t + w) (length zs) (m .t-z))) (either (m .apart)))
     where
-      or-left : (a b : Bool) → a ≡ true → (a || b) ≡ true
-      or-left a b e = ap (λ (c : Bool). c || b) e
-
-      or-right : (a b : Bool) → b ≡ true → (a || b) ≡ true
-      or-right true b e = refl
-      or-right false b e = e
-
       either : (s ≡ t) ⊎ ((s + w ≤ t) ⊎ (t + w ≤ s)) → (eqb s t || (leb (s + w) t || leb (t + w) s)) ≡ true
-      either (inl e) = or-left (eqb s t) _ (eq-eqb s t e)
-      either (inr (inl l)) = or-right (eqb s t) _ (or-left (leb (s + w) t) _ (le-leb (s + w) t l))
-      either (inr (inr l)) = or-right (eqb s t) _ (or-right (leb (s + w) t) _ (le-leb (t + w) s l))
+      either (inl e) = or-left _ (eq-eqb s t e)
+      either (inr (inl l)) = or-right (eqb s t) (or-left _ (le-leb (s + w) t l))
+      either (inr (inr l)) = or-right (eqb s t) (or-right (leb (s + w) t) (le-leb (t + w) s l))

@@ -1,4 +1,5 @@
--- The checker's verdict: what each verdict says, and that a yes is exactly demand 3's. Assumes nothing.
+-- The checker's verdict: what each verdict says, and that a yes is exactly RULES 12.3. Its three looks are taken one after the other, and reduced form is
+-- read off the bits (`walk-agree`), so that the replay has it exactly if the claim does. Assumes nothing.
 use Prim.Native.Nat.{ℕ, zero, suc, _+_, _<_, _≤_}
 use native.Mathlib.Omega.{arith}
 use mathlib.Core.Path.{_≡_, refl, sym, ap, _∙_}
@@ -11,7 +12,7 @@ use Rattle.reduction.specs.Lists.{In, All}
 use Rattle.reduction.specs.Rule.{Entry}
 use Rattle.reduction.specs.Replay.{replay}
 use Rattle.reduction.specs.Form.{ReducedForm}
-use Rattle.reduction.specs.Checker.{firstDiff, badEntry, differs, notReduced, accepted, verdictBy, verdict, working, workingBy, firstBad}
+use Rattle.reduction.specs.Checker.{firstDiff, badEntry, differs, notReduced, accepted, verdictBy, verdict, working, workingBy}
 use Rattle.reduction.specs.Demand.{Asked, Good, Agree, Right, NamesAll, NoPhase}
 use Rattle.reduction.specs.Laws.{Laws}
 use Rattle.reduction.proofs.Lists.{all-mono, in-left, same?, none≢some}

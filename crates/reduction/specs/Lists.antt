@@ -6,6 +6,7 @@ use mathlib.Core.Logic.{_⊎_}
 use mathlib.Core.Bool.{Bool, true, false, cond, not, _&&_, _||_}
 use mathlib.Core.List.{List, [], _∷_}
 use lib.Dec.{eqb}
+unfoldable pub use Rattle.pauli.specs.Lists.{every}
 
 -- the number stands in the list; and the test of it
 abbrev pub In : ℕ → List ℕ → Type 0
@@ -34,8 +35,3 @@ different (x ∷ xs) = cond (has x xs) (different xs) (suc (different xs))
 abbrev pub All : {A : Type 0} → (A → Type 0) → List A → Type 0
 All Q [] = Unit {0}
 All Q (e ∷ es) = Q e × All Q es
-
--- the test f is true at each element
-unfoldable pub every : (ℕ → Bool) → List ℕ → Bool
-every f [] = true
-every f (k ∷ ks) = f k && every f ks
