@@ -1,4 +1,5 @@
--- The lowest bit of a number as a Bool, and of what the bit operations give. Assumes nothing.
+-- The lowest bit of a number as a Bool, and of what the bit operations give: each operation works on the lowest bits as a table says and on the halves as
+-- itself (`op-odd`, `op-half`). Assumes nothing.
 use mathlib.Core.Path.{_≡_, refl, sym, ap, ap₂, _∙_}
 use mathlib.Core.Bool.{Bool, true, false, not, _&&_, _||_}
 use Prim.Native.Nat.{ℕ, zero, suc, _+_, _-_, _*_, _/_, _%_, _^_, _<_, min, max}

@@ -1,4 +1,5 @@
--- Parts of words and rows of a set: how long one is, where one ends, what stands in it; words are given by their rows. Assumes nothing.
+-- Parts of words and rows of a set: how long one is, where one ends, what stands in it; words are given by their rows. A row is a part of w words, and the
+-- first row stands before the others. Assumes nothing.
 use mathlib.Core.Path.{_≡_, refl, sym, ap, ap₂, _∙_, subst}
 use mathlib.Core.Bool.{Bool}
 use mathlib.Core.List.{List, [], _∷_, _++_}

@@ -1,4 +1,5 @@
--- Unpacking undoes packing: a row that was laid in words, read again. Assumes nothing.
+-- Unpacking undoes packing: a row that was laid in words, read again. Each word gives back its 64 places, and where the list has ended, I, because the bits
+-- there were packed as 0. Assumes nothing.
 use mathlib.Core.Path.{_≡_, refl, sym, ap, ap₂, _∙_, subst}
 use mathlib.Core.Bool.{Bool, true, false}
 use mathlib.Core.List.{List, [], _∷_, _++_}

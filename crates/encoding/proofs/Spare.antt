@@ -1,4 +1,5 @@
--- The bits at n and above: only the last word of a row has any. Assumes nothing.
+-- The bits at n and above: only the last word of a row has any, since a row has as many words as n needs. Whether one of them is set is whether the word,
+-- shifted down by n mod 64, is not 0 (`above-is`). Assumes nothing.
 use mathlib.Core.Path.{_≡_, refl, sym, ap, ap₂, _∙_, subst}
 use mathlib.Core.Bool.{Bool, true, false, not, _||_}
 use mathlib.Core.List.{List, [], _∷_, _++_, append-nil}

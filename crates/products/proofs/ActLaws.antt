@@ -1,4 +1,5 @@
--- A row acts on a state in place: what the loop keeps. Assumes nothing.
+-- A row acts on a state in place: of the state, words below i are the exclusive or with X and the others as they were, and the exponent so far with that
+-- of the words from i on is the whole, mod 4 (`Turned`). Each word brings at most 3, so the sum stays small. Assumes nothing.
 use mathlib.Core.Path.{_≡_, refl, sym, ap, ap₂, _∙_}
 use mathlib.Core.Bool.{Bool}
 use mathlib.Core.List.{List, _++_}

@@ -1,4 +1,5 @@
--- Parts of words that are written: what stands there, and what writing one leaves of the others. Assumes nothing.
+-- Parts of words that are written: what stands there, and what writing one leaves of the others. Words are what lies before a part, the part, and what
+-- lies behind it, so that they are settled by the part and by what is outside (`outside-one`). Assumes nothing.
 use mathlib.Core.Path.{_≡_, refl, sym, ap, ap₂, _∙_, subst}
 use mathlib.Core.Bool.{Bool}
 use mathlib.Core.List.{List, [], _∷_, _++_}

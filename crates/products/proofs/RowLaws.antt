@@ -1,4 +1,5 @@
--- What a loop over the words of rows keeps: the words written so far, and the exponent of those to come. Assumes nothing.
+-- What a loop over the words of rows keeps: the words written so far, and counts that with those of the words to come are the whole counts (`Done`,
+-- `Adding`). A word more moves its clashes and its threes from what is to come to what is counted. Assumes nothing.
 use mathlib.Core.Path.{_≡_, refl, sym, ap, ap₂, _∙_, subst}
 use mathlib.Core.List.{List, [], _∷_, _++_}
 use Prim.Native.Nat.{ℕ, zero, suc, _+_, _*_, _%_, _^_, _≤_, _<_, zero-le}

@@ -1,4 +1,5 @@
--- The counts of masked words are sums over the qubits: of exponents, and of clashes. Assumes nothing.
+-- The counts of masked words are sums over the qubits: of exponents, and of clashes. A mask is a test of the bits of one place, and that the masks add up
+-- to the value wanted at each place is one computed test over all bits of a place (`counts₄`). Assumes nothing.
 use mathlib.Core.Path.{_≡_, refl, ap, _∙_}
 use mathlib.Core.Bool.{Bool, false}
 use mathlib.Core.List.{List, [], _∷_}

@@ -1,4 +1,5 @@
--- The checker's entry test: it is the wording of demand 3; the first bad entry is the first; a number of m or more is a bad entry. Assumes nothing.
+-- The checker's entry test is the wording of RULES 7.3; the first bad entry is the first, being found after entries that are all good (`BadAt`); a number of
+-- m or more is a bad entry, since it stands in no list. Assumes nothing.
 use Prim.Native.Nat.{ℕ, suc, _+_, _≤_}
 use native.Mathlib.Omega.{arith}
 use mathlib.Core.Path.{_≡_, refl, sym, ap, _∙_}

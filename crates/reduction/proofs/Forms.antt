@@ -1,4 +1,5 @@
--- The test of reduced form, the walk along the order, and document 01's reduced form are the same. Assumes nothing.
+-- The test of reduced form, the walk along the order, and RULES 5.10 are the same. A column more at the front is passed over by all three, or is the pivot
+-- column of the first row left in all three; places in the order are then one further. Assumes nothing.
 use Prim.Native.Nat.{ℕ, zero, suc, _<_, _≤_}
 use native.Mathlib.Decide.{decLt}
 use native.Mathlib.Omega.{arith}

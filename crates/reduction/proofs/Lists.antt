@@ -1,4 +1,5 @@
--- Laws of the lists of specs/Lists.antt: membership, each once, how many different. Assumes nothing.
+-- Laws of the lists of specs/Lists.antt: membership, each once, how many different. Numbers that stand in another list, each once, are at most as many as it
+-- has different ones, because each can be taken out of it (`most-different`). Assumes nothing.
 use Prim.Native.Nat.{ℕ, zero, suc, _<_, _≤_}
 use native.Mathlib.Decide.{ℕ-discrete}
 use native.Mathlib.Omega.{arith}

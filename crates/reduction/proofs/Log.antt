@@ -1,4 +1,5 @@
--- Entries in a lent log: reading what was written, one entry more, one entry after the other. Assumes nothing.
+-- Entries in a lent log: reading what was written, one entry more, one entry after the other. An entry is two units, so that entry i is units 2i and 2i + 1
+-- and a last unit without another is none. Assumes nothing.
 use Prim.Native.Nat.{ℕ, zero, suc, _+_, _/_, _≤_, _<_}
 use native.Mathlib.Numerals.{add-one}
 use native.Mathlib.Omega.{arith}

@@ -1,4 +1,5 @@
--- Reduced form as a walk along the order, and that the rule's rows are in it. Assumes nothing.
+-- Reduced form as a walk along the order, and that the rule's rows are in it: a column passed over stays 0 in the rows left, since only these are sources from
+-- there on (`keep`), and a pivot's column is cleared in all others (`pivot-zero`). Assumes nothing.
 use Prim.Native.Nat.{ℕ, suc, _+_}
 use native.Mathlib.Omega.{arith}
 use mathlib.Core.Path.{_≡_, refl, sym, ap, _∙_, subst}

@@ -1,4 +1,5 @@
--- `cmpnt_list::commute_rows` meets its contract. Assumes nothing.
+-- The two parts of words are rows a and b (`words-at`); that their clashes are even in number is that the rows commute, because no bit is set at n or
+-- above (`commute-is`).
 use mathlib.Core.Path.{ap₂, _∙_}
 use mathlib.Core.List.{List}
 use Prim.Native.Nat.{_%_}

@@ -1,4 +1,5 @@
--- `cmpnt_list::commutes_with` meets its contract. Assumes nothing.
+-- At a number the answer is that number (`refusing`); where there is none the set is sound and both rows are among its rows (`both-small`), and the
+-- answer is the worker's (`passing`).
 use mathlib.Core.Path.{refl, ap, _∙_}
 use Prim.Native.Nat.{ℕ}
 use borrow.Author.Needs.{needs}

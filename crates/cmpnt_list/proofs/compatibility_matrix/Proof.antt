@@ -1,4 +1,5 @@
--- `cmpnt_list::compatibility_matrix` meets its contract. Assumes nothing.
+-- At a number the matrix is as it was (`refusing`); where there is none the set is sound and the lent words are as many as the matrix has, and what
+-- the worker writes is the definition's (`passing`).
 use mathlib.Core.Path.{refl, _∙_}
 use Prim.Native.Nat.{ℕ}
 use borrow.Author.Needs.{needs}

@@ -1,4 +1,5 @@
--- `cmpnt_list::count_in` meets its contract. Assumes nothing.
+-- The part of words is row r, and its masked count is the count of the row: no bit is set at n or above, so it is at most n, as `from_masks` asks
+-- (`counted-row`).
 use mathlib.Core.Path.{_∙_}
 use borrow.Author.Needs.{needs}
 use Rattle.encoding.specs.Limits.{wordsOf}

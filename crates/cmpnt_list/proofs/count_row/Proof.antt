@@ -1,4 +1,5 @@
--- `cmpnt_list::count_row` meets its contract. Assumes nothing.
+-- The count so far, with that of the words from i on, is that of the whole row, and it is at most 64 a word, so that the sum fits (`Tallied`).
+-- A word more moves its count from the second to the first (`tallied-more`).
 use Prim.Native.Nat.{_-_}
 use borrow.Author.Needs.{needs}
 use lib.ListN.{length}

@@ -1,4 +1,5 @@
--- `cmpnt_list::count_word` meets its contract. Assumes nothing.
+-- One return for each Pauli: the ones of a masked word are the places that hold it, and for I those that hold another, by one computed test over the
+-- two bits of a place (`word-count`).
 use mathlib.Core.Path.{_≡_, sym, ap, _∙_}
 use native.Mathlib.Omega.{arith}
 use borrow.Author.Needs.{needs}

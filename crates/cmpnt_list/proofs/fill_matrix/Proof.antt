@@ -1,4 +1,5 @@
--- `cmpnt_list::fill_matrix` meets its contract. Assumes nothing.
+-- What the engine says of each bit of the matrix (`Filled`) is, for a sound set whose words are as many as it asks, that the words are those laid from
+-- the commutation of each two rows (`filled`).
 use borrow.Author.Needs.{needs}
 use mathlib.Core.Path.{subst}
 use Prim.Native.Nat.{ℕ}

@@ -1,4 +1,5 @@
--- `cmpnt_list::from_masks` meets its contract. Assumes nothing.
+-- One return for each Pauli: the mask of X, Y or Z has counted them, that of I the others, so that I is what is left of n. It is not negative, since
+-- the count is at most n.
 use mathlib.Core.Path.{sym, ap, _∙_}
 use Prim.Native.Nat.{ℕ, _-_}
 use borrow.Author.Needs.{needs}

@@ -1,4 +1,5 @@
--- `cmpnt_list::imul_state` meets its contract. Assumes nothing.
+-- The number is the first of those of the set with the row and of the state. At one the state is as it was (`refusing`); where there is none both
+-- parts have passed (`least-none`), and what the worker leaves is the action (`passing`).
 use mathlib.Core.Path.{refl, sym, ap, _∙_}
 use Prim.Native.Nat.{ℕ}
 use borrow.Author.Tests.{leb-false}

@@ -1,4 +1,5 @@
--- `cmpnt_list::mul_part` meets its contract. Assumes nothing.
+-- The product is made in one part of the lent words, the same in all six: that part is the leaf's product, and what lies before and behind it is as it
+-- was (`part-product`).
 use borrow.Author.Needs.{needs}
 use Rattle.products.proofs.PartLaws.{part-product}
 use Rattle.cmpnt_list.proofs.mul_part.Statement.{statement}

@@ -1,4 +1,5 @@
--- `cmpnt_list::mul_rows` meets its contract. Assumes nothing.
+-- Rows below r of the third set are laid from the products (`Holds`), and numbers below r are the numbers of clashes (`Numbered`). Row r is written in
+-- its own part of words and its own exponent, so that no earlier row changes (`holds-more`).
 use mathlib.Core.Path.{subst, _≡_, refl, sym, ap, _∙_}
 use Prim.Native.Nat.{ℕ, _*_, _-_, _<_, _≤_}
 use native.Mathlib.Omega.{arith}

@@ -1,4 +1,5 @@
--- `cmpnt_list::phase_rows` meets its contract. Assumes nothing.
+-- The two parts of words are rows a and b (`words-at`); the leaf's exponent over all their places is that over n qubits, because at n and above
+-- they hold I (`phase-is`).
 use mathlib.Core.Path.{ap₂, _∙_}
 use mathlib.Core.List.{List}
 use Prim.Native.Nat.{_%_}

@@ -1,4 +1,5 @@
--- `cmpnt_list::read_qubit` meets its contract. Assumes nothing.
+-- The part of words is row r (`words-at`). The leaf reads any place of a part; place q of this one is qubit q of the row, since q is below n
+-- (`qubit-is`).
 use mathlib.Core.List.{List}
 use mathlib.Core.Path.{ap, _∙_}
 use borrow.Author.Needs.{needs}

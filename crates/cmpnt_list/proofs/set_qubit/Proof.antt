@@ -1,4 +1,5 @@
--- `cmpnt_list::set_qubit` meets its contract. Assumes nothing.
+-- At a number the set is as it was (`refusing`); where there is none the set is sound, and row and qubit are below their limits (`both-small`), and
+-- what the worker leaves is the set with that qubit (`passing`).
 use mathlib.Core.Path.{refl, _∙_}
 use Prim.Native.Nat.{ℕ}
 use borrow.Author.Needs.{needs}

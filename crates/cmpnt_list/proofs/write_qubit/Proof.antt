@@ -1,4 +1,5 @@
--- `cmpnt_list::write_qubit` meets its contract. Assumes nothing.
+-- Only the part of words of row r is lent on, and in it one qubit is set. Every other row keeps its words, so the memory is the one laid from the rows
+-- with that qubit (`qubit-written`).
 use borrow.Author.Needs.{needs}
 use Rattle.encoding.specs.Limits.{wordsOf}
 use Rattle.cmpnt_list.proofs.OneQubit.{qubit-written}

@@ -1,3 +1,5 @@
+-- No row below r has a bit at n or above. Where n is a multiple of 64 no row can have one (`rows-none`); else only the last word of a row can,
+-- so that looking at that word decides row r (`row-last`): the call ends at the first row found, or with all m rows behind it.
 use mathlib.Core.Bool.{false}
 use Rattle.encoding.specs.Refusals.{someBelow, badBits}
 use Rattle.encoding.proofs.Spare.{high, rows-none, row-last}

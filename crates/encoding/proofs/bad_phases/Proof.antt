@@ -1,3 +1,5 @@
+-- What was found, or is found in the bytes from place i on, is what is found in all of them: byte i goes over from the second to the first
+-- (`some-next`), and at the end nothing is left to be found in.
 use lib.Dec.{ltb}
 use mathlib.Core.Bool.{Bool, _||_, or-false}
 use Rattle.encoding.specs.Refusals.{some, badPhases}

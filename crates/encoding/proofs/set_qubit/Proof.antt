@@ -1,3 +1,5 @@
+-- Inside both parts one bit of one word in each is set as the Pauli has it, and that is setting the qubit (`set-inside`). Past the end of either
+-- part nothing is written, and setting a qubit there does nothing (`set-nothing`).
 use native.Mathlib.Omega.{arith}
 use mathlib.Core.Path.{_≡_, refl, sym, ap, _∙_}
 use Prim.Native.Nat.{ℕ, _+_, _*_, _-_, _/_, _<_, _≤_}

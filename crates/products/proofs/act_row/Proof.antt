@@ -1,3 +1,5 @@
+-- Of the state, words below i are the exclusive or with X and the others as they were; the exponent so far with that of the words from i on is the
+-- whole, mod 4 (`Turned`). The exponent is at most 3 a word, so the sum fits.
 use Prim.Native.Nat.{_-_}
 use native.Mathlib.Omega.{arith}
 use lib.ListN.{length}

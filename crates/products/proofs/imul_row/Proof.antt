@@ -1,3 +1,5 @@
+-- In the target's part, words below i are the product's and the others as they were, nothing else has changed, and the two counts with those of the
+-- words from i on are the whole counts (`Inplace`). Source and target are the same or apart, so word i of both is still what it was.
 use borrow.Author.Needs.{needs}
 use native.Mathlib.Omega.{arith}
 use mathlib.Core.Path.{_≡_}

@@ -1,3 +1,5 @@
+-- The product is made in the first k words of the lent ones, which are lent on: those are what the leaf leaves, and what lies behind them is as it
+-- was (`product-at`).
 use native.Mathlib.Omega.{arith}
 use mathlib.Core.Path.{_≡_, refl, sym, ap, _∙_}
 use Prim.Native.Nat.{ℕ, _+_, _*_, _-_, _/_, _<_, _≤_}

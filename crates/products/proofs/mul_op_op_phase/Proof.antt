@@ -1,3 +1,5 @@
+-- The number of clashes and the exponent so far, with those of the words from i on, are those of the whole rows (`Adding`): of k words, the
+-- length of the shortest part, past which the definition sums nothing.
 use borrow.Author.Needs.{needs}
 use native.Mathlib.Omega.{arith}
 use mathlib.Core.Path.{_≡_}

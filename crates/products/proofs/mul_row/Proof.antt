@@ -1,3 +1,5 @@
+-- Words below i are the product's and the others as they were, and the two counts with those of the words from i on are the whole counts (`Done`):
+-- a word more moves its clashes and its threes from what is to come to what is counted.
 use borrow.Author.Needs.{needs}
 use native.Mathlib.Omega.{arith}
 use mathlib.Core.Path.{_≡_}

@@ -1,3 +1,5 @@
+-- The numbers of the task, of the claimed set and of the log, in the order of the table, make the first that fits. At a number all is as it was
+-- (`refusing`); where there is none, every test has passed (`check-passed`), and the worker's verdict is the call's (`judging`).
 use borrow.Author.Needs.{needs}
 use Rattle.encoding.specs.Set.{mem}
 use Rattle.replay.specs.Check.{task, claim}

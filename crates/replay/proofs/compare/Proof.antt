@@ -1,3 +1,5 @@
+-- The first row that differs below m gives the verdict (`says-differs`); if there is none, the test of reduced form gives it (`says-yes`,
+-- `says-not-reduced`). The rows are compared as they stand, so the replay has been done before.
 use mathlib.Core.Path.{sym}
 use borrow.Author.Needs.{needs}
 use Rattle.encoding.specs.Set.{memOf, mem}

@@ -1,3 +1,5 @@
+-- Every entry is tested before any is done, so at a bad one the rows are as they were (`judge-bad`). Else all are done, the rows are the full
+-- replay, a set as before (`judge-passed`), and what is said of them is the verdict (`judge-end`).
 use borrow.Author.Needs.{needs}
 use mathlib.Core.Path.{refl}
 use Rattle.encoding.specs.Set.{memOf, mem}

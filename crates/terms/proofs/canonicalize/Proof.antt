@@ -1,3 +1,5 @@
+-- The first number that fits, or the worker. At a number the answer is that number and all is as it was (`reduce-refused`); where there is none the
+-- set is sound and the lists are as the worker asks (`lists-in`), and what it leaves is the rule's (`leaves-at`).
 use Rattle.terms.proofs.Answers.{lists-in, reduce-refused, leaves-at, leaves-lent}
 use Rattle.terms.specs.Calls.{outcomeOf}
 use Rattle.encoding.specs.Set.{mem}

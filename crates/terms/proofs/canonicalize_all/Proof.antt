@@ -1,3 +1,5 @@
+-- The first number that fits the set, or the worker. At a number the answer is that number and all is as it was (`reduce-refused`); where there is
+-- none the set is sound, and what the worker leaves is the rule's with all columns and all rows in order (`leaves-at`).
 use Rattle.encoding.proofs.Sets.{sound-of}
 use Rattle.terms.proofs.Answers.{reduce-refused, leaves-at, leaves-lent}
 use Rattle.terms.specs.Calls.{wholeOutcome}

@@ -1,3 +1,5 @@
+-- The list keeps its length, and number j stands at each place j below i: writing i at place i changes no earlier place (`count-more`), and a list of
+-- m places with j at each is the numbers from 0 on (`count-all`).
 use Rattle.terms.proofs.Answers.{count-more, count-all}
 use borrow.Author.Needs.{needs}
 use native.Mathlib.Omega.{arith}

@@ -1,3 +1,5 @@
+-- The lists of all columns and all rows are the beginnings of two counted-up ones, of 2n and of m numbers (`up-long`). They are each once and below
+-- their limits (`lists-all`), so the worker's run is the rule's on them (`leaves-all`).
 use Rattle.terms.proofs.Answers.{up-long, lists-all, leaves-all}
 use Rattle.encoding.specs.Limits.{maxQubits, maxRows}
 use native.Mathlib.Omega.{arith}

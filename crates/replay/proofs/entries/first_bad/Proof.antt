@@ -1,3 +1,5 @@
+-- The extra rows are marked, then the listed ones over them. So a mark says in which list a number stands, and the test of an entry by marks is
+-- the test by the lists (`first-by-lists`), at every entry and so at the first bad one.
 use mathlib.Core.Bool.{false}
 use mathlib.Core.Path.{subst, _≡_, sym, _∙_}
 use borrow.Author.Needs.{needs}

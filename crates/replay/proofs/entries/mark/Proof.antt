@@ -1,3 +1,5 @@
+-- A number has the new mark if it stands in the list below place i, and else the mark that it had (`Marking`). Each number of the list is below the
+-- length of the table, which stays.
 use mathlib.Core.Path.{_≡_, refl, _∙_}
 use Prim.Native.Nat.{_-_, _≤_}
 use native.Mathlib.Omega.{arith}

@@ -1,3 +1,5 @@
+-- That each row from place i on is p or has the column clear is that each row of the list is: row i is neither, and the answer is no (`every-here`),
+-- or it can be passed over (`every-next`).
 use mathlib.Core.Path.{_≡_, refl, sym, _∙_}
 use Prim.Native.Nat.{_-_, _≤_}
 use native.Mathlib.Omega.{arith}

@@ -1,3 +1,5 @@
+-- The test of the columns from place i on, with the listed rows from place t on still without a pivot column, is the test of the whole order: a
+-- column is passed over, or takes a pivot, or ends it with no (`test-next`).
 use mathlib.Core.List.{_++_}
 use mathlib.Core.Path.{_≡_, refl, sym, _∙_}
 use Prim.Native.Nat.{_-_, _≤_}

@@ -1,3 +1,5 @@
+-- The three ways out, in order: row p has the bit clear (`only-no-bit`), some other listed row has it set (`only-no-listed`), or the extra rows
+-- decide (`only-extra`). Together they are the test over both lists.
 use mathlib.Core.Path.{sym, _∙_}
 use borrow.Author.Tests.{not-true, not-false}
 use borrow.Author.Needs.{needs}

@@ -1,3 +1,5 @@
+-- No listed row from place t on has the bit: the column is passed over and t stays (`looked-none`). Else there is a row at place t (`found-in`), and
+-- the column must be the pivot column of that row, t going up by one (`looked-some`).
 use native.Mathlib.Omega.{arith}
 use borrow.Author.Needs.{needs}
 use Rattle.replay.proofs.Looks.{looked-none, found-in, looked-some}

@@ -1,3 +1,5 @@
+-- The first row that differs of those from i on is the first of all: rows i differ, and i is the answer (`diff-here`), or they are the same and are
+-- passed over (`diff-next`).
 use mathlib.Core.Path.{_≡_, sym, ap, _∙_}
 use Prim.Native.Nat.{_+_, _-_, _≤_}
 use native.Mathlib.Nat.{sub-zero}

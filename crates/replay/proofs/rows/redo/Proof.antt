@@ -1,3 +1,5 @@
+-- The memory is the one with the first i entries done, and no slice has changed its length: entry i is the next of the log's pairs, and doing it is
+-- one entry more (`redo-more`).
 use mathlib.Core.Path.{_≡_, refl, ap, _∙_}
 use Prim.Native.Nat.{_+_, _-_, _≤_}
 use native.Mathlib.Omega.{arith}

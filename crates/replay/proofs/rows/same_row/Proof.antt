@@ -1,3 +1,5 @@
+-- Words that differ, X or Z, are rows that differ (`row-x-not`, `row-z-not`), because the bits at n and above are zero in both sets; where all are
+-- the same, the exponents decide (`row-same`).
 use mathlib.Core.Path.{subst, _≡_, sym, ap₂, _∙_}
 use lib.Dec.{eqb}
 use Prim.Native.Nat.{_+_, _*_, _≤_}

@@ -1,3 +1,5 @@
+-- The words of both rows below i are the same. A pair that differs makes the rows differ (`rows-not`), and w pairs that do not make them equal
+-- (`rows-equal`).
 use mathlib.Core.Bool.{false≢true}
 use mathlib.Core.Path.{_≡_, sym}
 use Prim.Native.Nat.{ℕ, _+_, _*_, _-_, _<_, _≤_}

@@ -1,3 +1,5 @@
+-- What is left of the list has no number twice and finds no mark exactly when the whole list has no number twice (`Marking`): a number that finds
+-- a mark is there twice (`marked-here`), and else marking it keeps that (`marking-next`).
 use mathlib.Core.Bool.{not}
 use mathlib.Core.Path.{_≡_, refl, sym, ap, _∙_}
 use Prim.Native.Nat.{_-_, _≤_}

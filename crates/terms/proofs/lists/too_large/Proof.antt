@@ -1,3 +1,5 @@
+-- That some number from place i on is too large is that some number of the list is: number i is, and the answer is given (`some-hit`), or it is not
+-- and can be passed over (`some-more`).
 use Rattle.encoding.proofs.Scan.{some-hit, some-more, some-end}
 use Rattle.encoding.specs.Refusals.{some, tooLarge}
 use borrow.Author.Needs.{needs}

@@ -1,3 +1,5 @@
+-- No row is found: nothing is done (`column-none`). Else the row found stands at place t or later, so that there is a pivot; its piece of the run
+-- fills the log (`column-full`) or is done, and t goes up by one (`column-done`).
 use Rattle.terms.proofs.Pieces.{column-none, column-full, column-done}
 use Rattle.terms.proofs.RowView.{find-some, find-none, find-from}
 use native.Mathlib.Omega.{arith}

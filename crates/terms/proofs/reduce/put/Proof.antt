@@ -1,3 +1,5 @@
+-- If no entry fits, all is as it was and the run is full (`put-full`). Else two units are written behind the last entry and the product is made: the
+-- log has one entry more and the rows are the product's (`put-done`).
 use Rattle.terms.proofs.Steps.{put-full, put-done}
 use native.Mathlib.Omega.{arith}
 use lib.ListN.{length-set}

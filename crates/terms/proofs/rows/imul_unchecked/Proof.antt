@@ -1,3 +1,5 @@
+-- Where the memory is no set of m rows within the limits, or a or b is no row, all is as it was, and so says the definition (`no-shape`, `no-a`,
+-- `no-b`). Else both rows lie in the words (`in-rows`), and the memory becomes what the definition says (`becomes`).
 use Rattle.encoding.specs.Set.{memOf}
 use Rattle.terms.proofs.InSet.{shape-to, shape-from, no-shape, no-a, no-b, in-rows, becomes}
 use native.Mathlib.Omega.{arith}
