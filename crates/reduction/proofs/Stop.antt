@@ -1,5 +1,5 @@
 -- A log with room for `capacity` entries: what `capped` is in each case, and that a loop which looks before each product whether its entry fits
--- (specs/Twin.antt) ends as `capped` says. Assumes nothing.
+-- (specs/Workers.antt) ends as `capped` says. Assumes nothing.
 use Prim.Native.Nat.{ℕ, _<_, _≤_}
 use native.Mathlib.Decide.{decLe}
 use native.Mathlib.Omega.{arith}
@@ -15,7 +15,7 @@ use Rattle.pauli.proofs.Bools.{cond-ind}
 use Rattle.reduction.specs.Rule.{Entry, entry, Run, multiply, counted, first, clear, pivot, columnBy, column, columns, reduce}
 use Rattle.reduction.specs.Replay.{replay}
 use Rattle.reduction.specs.Capacity.{Reduced, done, full, capped}
-use Rattle.reduction.specs.Twin.{andThen, through, multiplyC, turnC, leadC, pivotC, columnByC, columnC}
+use Rattle.reduction.specs.Workers.{andThen, through, multiplyC, turnC, leadC, pivotC, columnByC, columnC}
 use Rattle.reduction.proofs.Run.{Ext, ext-none, ext-step, ext-clear, ext-columns, ext-mono, replay-append}
 
 module _ {R : Type 0} (bit : R → ℕ → Bool) (mul : R → R → R) (capacity : ℕ) (order listed extra : List ℕ) (σ : ℕ → R) where

@@ -7,4 +7,4 @@ pub mod Form
 pub mod Checker
 pub mod Demand
 pub mod Laws
-pub mod Twin
+pub mod Workers

@@ -21,7 +21,7 @@ use Rattle.encoding.proofs.Parts.{length-list, getD-list}
 use Rattle.reduction.specs.Rule.{mulAt}
 use Rattle.reduction.specs.Log.{pairs, logged, capacity}
 use Rattle.reduction.specs.Capacity.{Reduced, done, full, capped}
-use Rattle.reduction.specs.Twin.{through, columnC}
+use Rattle.reduction.specs.Workers.{through, columnC}
 use Rattle.reduction.proofs.Lists.{in-getD, in-left, in-right}
 use Rattle.reduction.proofs.Log.{length-first, logged-is}
 use Rattle.reduction.proofs.Stop.{stops-is-capped}

@@ -13,7 +13,7 @@ use Rattle.encoding.specs.Set.{Mem, count, rowsOf}
 use Rattle.reduction.specs.Rule.{Run, multiply, counted, first}
 use Rattle.reduction.specs.Log.{capacity}
 use Rattle.reduction.specs.Capacity.{Reduced, done, full}
-use Rattle.reduction.specs.Twin.{andThen, through, multiplyC, turnC, leadC, pivotC, columnByC, columnC}
+use Rattle.reduction.specs.Workers.{andThen, through, multiplyC, turnC, leadC, pivotC, columnByC, columnC}
 use Rattle.pauli.proofs.Bools.{cond-ind}
 use Rattle.terms.specs.declared.reduce.Progress.{Progress}
 use Rattle.terms.specs.Leaves.{bitIn}

@@ -13,7 +13,7 @@ use Rattle.encoding.specs.Set.{Mem, count, rowsOf, Sound}
 use Rattle.reduction.specs.Rule.{Entry, Run, mulAt, multiply}
 use Rattle.reduction.specs.Log.{pairs, capacity}
 use Rattle.reduction.specs.Capacity.{Reduced, done, full}
-use Rattle.reduction.specs.Twin.{andThen, through, multiplyC}
+use Rattle.reduction.specs.Workers.{andThen, through, multiplyC}
 use Rattle.reduction.proofs.Log.{length-first, pairs-more}
 use Rattle.terms.specs.declared.reduce.Progress.{Progress}
 use Rattle.terms.specs.Leaves.{mulIn}

@@ -7,7 +7,7 @@ ghost use Rattle.pauli.specs.Row.{mulRow, bitRow};
 ghost use Rattle.encoding.specs.Set.{Sound};
 ghost use Rattle.encoding.specs.Lent.{lentOf, beforeOf, afterOf};
 ghost use Rattle.reduction.specs.Log.{capacity};
-ghost use Rattle.reduction.specs.Twin.{through, multiplyC, turnC, leadC, pivotC, columnC};
+ghost use Rattle.reduction.specs.Workers.{through, multiplyC, turnC, leadC, pivotC, columnC};
 ghost use Rattle.terms.specs.Work.{Below, Ready, start, Does};
 use crate::rows::find;
 use crate::rows::get_bit;
