@@ -1,4 +1,5 @@
--- A row on a lent basis state: what the leaf leaves in the state's words, said of the row and the state. Assumes nothing.
+-- A row on a lent basis state: what the leaf leaves in the state's words, said of the row and the state. At n and above the row holds I, so that the places
+-- there change nothing and bring no exponent. Assumes nothing.
 use mathlib.Core.Path.{_≡_, refl, sym, ap, _∙_, subst}
 use mathlib.Core.Bool.{Bool}
 use mathlib.Core.List.{List}

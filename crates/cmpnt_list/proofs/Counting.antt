@@ -1,4 +1,5 @@
--- Counting Paulis by counts of ones in masked words. Assumes nothing.
+-- Counting Paulis by counts of ones in masked words. That a mask finds one Pauli is a computed test over the bits of a place; words are counted one after the
+-- other (`Tallied`), and at n and above there is I, which no mask counts. Assumes nothing.
 use mathlib.Core.Path.{_≡_, refl, sym, ap, ap₂, _∙_, subst}
 use mathlib.Core.Bool.{Bool, true, false, cond}
 use mathlib.Core.List.{List, [], _∷_, _++_}

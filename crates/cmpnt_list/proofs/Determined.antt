@@ -1,4 +1,5 @@
--- Any two outcomes that a call's contract allows are equal: the answers, and what stands in the lent buffers. Assumes nothing.
+-- Any two outcomes that a call's contract allows are equal: the answers, and what stands in the lent buffers. A contract is equations whose right sides speak
+-- of what was given alone, so both outcomes equal the same. Assumes nothing.
 use mathlib.Core.Path.{_≡_, sym, _∙_}
 use mathlib.Core.List.{List}
 use Prim.Native.Nat.{ℕ}

@@ -1,4 +1,5 @@
--- One qubit of one row was set: the memory is the one laid from the rows with that qubit set. Assumes nothing.
+-- One qubit of one row was set: the memory is the one laid from the rows with that qubit set. In the row's own words every other bit is as it was, and no other
+-- row's words are written (`qubit-written`). Assumes nothing.
 use mathlib.Core.Path.{_≡_, refl, sym, ap, _∙_, subst, fun-ext}
 use mathlib.Core.Bool.{Bool, true, false, cond}
 use mathlib.Core.List.{List}

@@ -1,4 +1,5 @@
--- From the tests of a call to its answer, and to what its worker may ask. Assumes nothing.
+-- From the tests of a call to its answer, and to what its worker may ask. The number of a call is the first of its parts' numbers, so that where it is 0 all
+-- parts have passed, and each part says what it leaves. Assumes nothing.
 use mathlib.Core.Path.{_≡_, refl, sym, ap, _∙_}
 use mathlib.Core.Bool.{Bool, false, cond, not, _||_}
 use Prim.Native.Nat.{ℕ, _*_, _≤_, _<_}

@@ -1,4 +1,5 @@
--- Where a row lies, and what was written there. Assumes nothing.
+-- Where a row lies, and what was written there: row r starts at r times w and ends w words on, which lies inside and stays small within the limits, so that
+-- the lent part is the row (`part-is`). Assumes nothing.
 use mathlib.Core.Path.{_≡_, sym, ap, ap₂, _∙_, subst}
 use mathlib.Core.List.{List}
 use Prim.Native.Nat.{ℕ, _+_, _-_, _*_, _≤_, _<_}

@@ -1,4 +1,5 @@
--- The table of refusals: when no number fits, when a number does, and the smaller of two numbers. Assumes nothing.
+-- The table of refusals: when no number fits, when a number does, and the smaller of two numbers. The number is the place of the first test that holds
+-- (`First`), so that two parts of a call have, joined test by test, the smaller of their numbers (`joined-fault`). Assumes nothing.
 use mathlib.Core.Path.{_≡_, refl, sym, ap, ap₂, _∙_}
 use mathlib.Core.Bool.{Bool, true, false, cond, not}
 use mathlib.Core.Logic.{_↔_, _⊎_, inl, inr, ⊎-elim}

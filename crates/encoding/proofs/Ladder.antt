@@ -1,4 +1,5 @@
--- The table of a row set as the code climbs it, each test after those before it. Assumes nothing.
+-- The table of a row set as the code climbs it, each test after those before it: what has failed so far makes the definition's tests before it false, and what
+-- holds makes its test the first. Assumes nothing.
 use mathlib.Core.Path.{_≡_, refl, sym, ap, ap₂, _∙_}
 use mathlib.Core.Bool.{Bool, true, false, cond, _||_, not}
 use mathlib.Core.List.{List}

@@ -1,4 +1,5 @@
--- Two row sets compared in memory: words that are equal are the same qubits, and the other way, where the bits at n and above are zero. Assumes nothing.
+-- Two row sets compared in memory: words that are equal are the same qubits, and the other way, where the bits at n and above are zero. The first row that differs
+-- is looked for from row i on (`diff-here`, `diff-next`). Assumes nothing.
 use mathlib.Core.Path.{_≡_, refl, sym, ap, ap₂, _∙_}
 use mathlib.Core.Bool.{Bool, true, false, cond, _&&_}
 use mathlib.Core.List.{List}

@@ -1,4 +1,5 @@
--- A lent log, entry after entry: the first bad entry, and the entries done in memory. Assumes nothing.
+-- A lent log, entry after entry: the first bad entry, and the entries done in memory. What is left to look at, from entry i on, says the same as the whole, and i
+-- entries done and one more are i + 1 (`redo-more`). Assumes nothing.
 use mathlib.Core.Path.{_≡_, refl, sym, ap, _∙_}
 use mathlib.Core.Bool.{Bool, true, false, cond}
 use mathlib.Core.Option.{Option, none, some}

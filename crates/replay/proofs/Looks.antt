@@ -1,4 +1,5 @@
--- The test of reduced form, a row and a column at a time, over any rows. Assumes nothing.
+-- The test of reduced form, a row and a column at a time, over any rows: what is left to look at says the same as the whole, so that a loop goes one row or one
+-- column on, or ends with the answer (`every-next`, `test-next`). Assumes nothing.
 use mathlib.Core.Path.{_≡_, refl, sym, ap, ap₂, _∙_, subst}
 use mathlib.Core.Bool.{Bool, true, false, cond, not, _&&_, _||_}
 use mathlib.Core.List.{List, [], _∷_, _++_}

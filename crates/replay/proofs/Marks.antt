@@ -1,4 +1,5 @@
--- Marks of row numbers: marking a list, and the entry test by marks. Assumes nothing.
+-- Marks of row numbers: marking a list, and the entry test by marks. What is left to mark, marked from here, is the whole, marked from the start; with the extra
+-- rows marked 1 and the listed ones 2, a mark tells the list (`first-by-lists`). Assumes nothing.
 use mathlib.Core.Path.{_≡_, refl, sym, ap, ap₂, _∙_}
 use mathlib.Core.Logic.{⊎-elim}
 use mathlib.Core.Bool.{Bool, true, false, cond, not, _&&_, _||_}

@@ -1,4 +1,5 @@
--- The set that `imul` leaves is accepted again, and the words of row a are the exclusive or of those of rows a and b. Assumes nothing.
+-- The set that `imul` leaves is accepted again, and the words of row a are the exclusive or of those of rows a and b: it is laid from rows, which has no spare
+-- bit and no exponent above 3. Assumes nothing.
 use mathlib.Core.Path.{_≡_, refl, sym, ap, _∙_}
 use mathlib.Core.Bool.{cond}
 use Prim.Native.Nat.{ℕ, _<_}

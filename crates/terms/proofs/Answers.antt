@@ -1,4 +1,5 @@
--- The calls: from the first number that fits, and from what the workers leave, to the answer, the rows and the log. Assumes nothing.
+-- The calls: from the first number that fits, and from what the workers leave, to the answer, the rows and the log. At a number all is as it was; where there
+-- is none the lists are as the theorems ask, and the run in memory is the rule's. Assumes nothing.
 use Prim.Native.Nat.{ℕ, zero, suc, _+_, _-_, _/_, _<_, _≤_}
 use native.Mathlib.Decide.{ℕ-discrete}
 use native.Mathlib.Omega.{arith}

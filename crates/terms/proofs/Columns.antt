@@ -1,4 +1,5 @@
--- A column of a row in memory: one bit of one word. Assumes nothing.
+-- A column of a row in memory: one bit of one word. The bit at place k times w times 64 and q of the set's words is bit q of row k (`in-row`), and past a row's
+-- words there is none (`past-row`). Assumes nothing.
 use mathlib.Core.Path.{_≡_, refl, sym, ap, ap₂, _∙_}
 use mathlib.Core.Bool.{Bool, true, false, cond, _&&_}
 use mathlib.Core.List.{List}

@@ -1,4 +1,5 @@
--- A row of a set multiplied in place by another: what the words have become, as `mulIn` says it. Assumes nothing.
+-- A row of a set multiplied in place by another: what the words have become, as `mulIn` says it. Where a row is not there, nothing is done; else both lie inside,
+-- and the leaf's product is that of the rows' words (`becomes`). Assumes nothing.
 use mathlib.Core.Path.{_≡_, refl, sym, ap, ap₂, _∙_, subst}
 use mathlib.Core.Logic.{_⊎_, inl, inr}
 use mathlib.Core.Bool.{Bool, true, false, cond, _&&_}

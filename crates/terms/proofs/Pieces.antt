@@ -1,4 +1,5 @@
--- The steps of the rule, each as a piece of a run in memory: a turn, the lead of a pivot, a column, the whole. Assumes nothing.
+-- The steps of the rule, each as a piece of a run in memory: a turn, the lead of a pivot, a column, the whole. The code looks at the bit in the words and the rule
+-- at that of the row, which are the same; t stays until a pivot is done. Assumes nothing.
 use Prim.Native.Nat.{ℕ, suc, _+_, _<_}
 use native.Mathlib.Numerals.{add-one}
 use mathlib.Core.Path.{_≡_, refl, sym, ap, _∙_, subst}

@@ -1,4 +1,5 @@
--- The leaves over a row set: a column is `bitRow`, the first place is that of `first`, a product in place is `mulAt`. Assumes nothing.
+-- The leaves over a row set: a column is `bitRow`, the first place is that of `first`, a product in place is `mulAt`. The words of a sound set are packed from its
+-- rows, so that one row written is one row changed (`Held`). Assumes nothing.
 use mathlib.Core.Path.{_≡_, refl, sym, ap, ap₂, _∙_, subst, fun-ext}
 use mathlib.Core.Bool.{Bool, true, false, cond}
 use mathlib.Core.Option.{none, some}

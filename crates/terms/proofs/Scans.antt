@@ -1,4 +1,5 @@
--- Scans of an order and of lists: a number too large, a number there twice; and that nothing refused is what the theorems ask. Assumes nothing.
+-- Scans of an order and of lists: a number too large, a number there twice; and that nothing refused is what the theorems ask. Marks are set for the numbers passed,
+-- so that a number is there twice exactly if it finds one. Assumes nothing.
 use mathlib.Core.Path.{_≡_, refl, sym, ap, ap₂, _∙_, subst}
 use mathlib.Core.Logic.{⊎-elim}
 use mathlib.Core.Bool.{Bool, true, false, cond, not, _&&_, _||_}

@@ -1,4 +1,5 @@
--- Pieces of a run in memory: nothing done, one entry, one piece after another, a loop over a list. Assumes nothing.
+-- Pieces of a run in memory: nothing done, one entry, one piece after another, a loop over a list. A piece leaves the rule's run on its own part, room and lengths
+-- kept (`Does`), so that pieces go together as the rule's do (`does-then`). Assumes nothing.
 use Prim.Native.Nat.{ℕ, suc, _+_, _<_, _≤_}
 use native.Mathlib.Omega.{arith}
 use native.Mathlib.Numerals.{add-one}
