@@ -1,12 +1,12 @@
 -- The set that a pairwise product writes and the state that an action leaves are accepted again; their words are the exclusive or of what was lent.
 -- Assumes nothing.
-use mathlib.Core.Path.{_≡_, refl, sym, ap, _∙_, subst}
+use mathlib.Core.Path.{_≡_, sym, ap, _∙_, subst}
 use mathlib.Core.List.{List}
-use Prim.Native.Nat.{ℕ, _*_, _%_, _≤_, _<_}
+use Prim.Native.Nat.{ℕ, _<_}
 use native.Mathlib.Omega.{arith}
 use borrow.Author.Tests.{leb-false}
 use lib.ListN.{length}
-use Rattle.pauli.specs.Pauli.{hasX, hasZ, _·_, turn}
+use Rattle.pauli.specs.Pauli.{hasX, hasZ, _·_}
 use Rattle.pauli.specs.Row.{mulRow}
 use Rattle.pauli.specs.Rows.{actOn}
 use Rattle.pauli.proofs.Lists.{length-each}
@@ -18,12 +18,11 @@ use Rattle.encoding.specs.declared.Answer.the-variants.{Done}
 use Rattle.encoding.proofs.WordLaws.{Fit, xors}
 use Rattle.encoding.proofs.Parts.{row-lay-list}
 use Rattle.encoding.proofs.Faults.{done-none}
-use Rattle.encoding.proofs.Memory.{Proper, row-count, count-lay}
-use Rattle.encoding.proofs.States.{length-state, state-long}
+use Rattle.encoding.proofs.Memory.{Proper, row-count}
 use Rattle.encoding.proofs.Again.{lay-passes, state-passes}
 use Rattle.products.proofs.Xor.{product-x, product-z, acted-xor}
 use Rattle.cmpnt_list.specs.Calls.{pairwiseFault, pairs, MulPairwise, ImulState}
-use Rattle.cmpnt_list.specs.Workers.{Asked, BothReady, ThirdReady}
+use Rattle.cmpnt_list.specs.Workers.{Asked, BothReady}
 use Rattle.cmpnt_list.specs.declared.Phase.the-variants as phase
 use Rattle.cmpnt_list.proofs.Tests.{Words64, asked-of, pairwise-asked}
 use Rattle.cmpnt_list.proofs.Meaning.{nothing, parts-ok, acted-long}

@@ -22,8 +22,8 @@ use Rattle.pauli.proofs.Meaning.{matrix-product, row-product, bare-exactly, com
 use Rattle.encoding.specs.Limits.{maxRows, wordsOf}
 use Rattle.encoding.specs.Words.{bitAt}
 use Rattle.encoding.specs.Set.{Mem, count, exponentAt, rowsIn, rowsOf, list, lay, Valid, Sound, stateOf, layState}
-use Rattle.encoding.specs.Refusals.{fault, joined, setTests, numberTests, stateTests, tooLarge, doneOr, leftOr}
-use Rattle.encoding.proofs.Faults.{joined-fault, least-none, First, refused-exactly, done-none, refused-iff}
+use Rattle.encoding.specs.Refusals.{fault, joined, setTests, numberTests, stateTests, tooLarge, leftOr}
+use Rattle.encoding.proofs.Faults.{joined-fault, least-none, First, done-none, refused-iff}
 use Rattle.encoding.proofs.Memory.{row-count, read-lay, valid-lay, count-lay, Proper}
 use Rattle.encoding.proofs.Parts.{length-list, getD-list}
 use Rattle.pauli.proofs.Lists.{length-each}

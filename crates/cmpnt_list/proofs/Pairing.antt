@@ -2,7 +2,7 @@
 -- set r rows are written: the leaf's words are row r of the product, and the sum of its exponent and of both bytes is the product's phase. Assumes nothing.
 use mathlib.Core.Path.{_≡_, refl, sym, ap, _∙_, subst}
 use mathlib.Core.List.{List}
-use Prim.Native.Nat.{ℕ, _+_, _-_, _*_, _%_, _<_}
+use Prim.Native.Nat.{ℕ, _+_, _*_, _%_, _<_}
 use native.Mathlib.Omega.{arith}
 use native.Mathlib.Nat.{ne-of-lt, not-suc-le-zero}
 use borrow.Author.Count.{below-more}

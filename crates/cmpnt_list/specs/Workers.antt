@@ -1,17 +1,15 @@
 -- What the private functions ask and leave: a set that passed its tests, where a row lies in it, what the masks count, and how far the loops over
 -- pairs of rows and over the rows of a product have come. Assumes nothing.
 use mathlib.Core.Path.{_≡_}
-use mathlib.Core.Bool.{Bool, true, false}
-use mathlib.Core.Logic.{_⊎_}
+use mathlib.Core.Bool.{Bool, false}
 use mathlib.Core.List.{List}
-use Prim.Native.Nat.{ℕ, _+_, _-_, _*_, _≤_, _<_}
-use lib.ListN.{length, getD}
+use Prim.Native.Nat.{ℕ, _+_, _-_, _*_, _≤_}
+use lib.ListN.{length}
 use Rattle.pauli.specs.Pauli.{Pauli}
 use Rattle.pauli.specs.declared.PauliMatrix.the-variants.{I, X, Y, Z}
 use Rattle.pauli.specs.Row.{Row}
 use Rattle.pauli.specs.Rows.{holding, actOn, actPhaseOn}
 use Rattle.encoding.specs.Limits.{wordsOf}
-use Rattle.encoding.specs.Words.{bitAt}
 use Rattle.encoding.specs.Set.{Mem, count, phaseUnits, Sound, stateOf, layState}
 
 -- no test of the set holds, and no number is too large

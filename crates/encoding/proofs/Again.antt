@@ -1,7 +1,7 @@
 -- What is laid in memory passes the tests of a call: a set laid from rows of n qubits with exponents below 4, and a basis state of n qubits, both within
 -- the limits. So what one call writes the next one takes. Assumes nothing.
 use mathlib.Core.Path.{_≡_, refl, sym, ap, _∙_, subst}
-use mathlib.Core.Bool.{Bool, false, cond}
+use mathlib.Core.Bool.{Bool, false}
 use mathlib.Core.List.{List}
 use Prim.Native.Nat.{ℕ, _+_, _*_, _/_, _%_, _≤_, _<_}
 use native.Mathlib.Nat.{div-add-mod'}
@@ -14,7 +14,7 @@ use Rattle.pauli.specs.Row.{Row}
 use Rattle.encoding.specs.Limits.{maxQubits, maxRows, wordsOf}
 use Rattle.encoding.specs.Words.{unbits}
 use Rattle.encoding.specs.Set.{lay, layState}
-use Rattle.encoding.specs.Refusals.{faultFrom, fault, some, setTests, stateTests}
+use Rattle.encoding.specs.Refusals.{faultFrom, fault, setTests, stateTests}
 use Rattle.encoding.proofs.BitLaws.{bit-pack}
 use Rattle.encoding.proofs.Memory.{Proper, valid-lay, count-lay}
 use Rattle.encoding.proofs.Padding.{Only, of-only}

@@ -1,16 +1,14 @@
 -- One bit of a word set or cleared: a mask has one bit (`mask-bit`), so that or and and-not change that bit alone, and two words with the same bits are the
 -- same (`same-bits`). Assumes nothing.
-use mathlib.Core.Path.{_≡_, refl, sym, ap, ap₂, _∙_, subst}
+use mathlib.Core.Path.{_≡_, refl, sym, ap, ap₂, _∙_}
 use mathlib.Core.Bool.{Bool, true, false, cond, not, _||_, _&&_, Bool·beq}
-use mathlib.Core.List.{List, [], _∷_}
-use Prim.Native.Nat.{ℕ, zero, suc, _+_, _-_, _*_, _/_, _%_, _^_, _≤_, _<_, zero-le, suc-le-suc}
+use Prim.Native.Nat.{ℕ, zero, suc, _+_, _-_, _*_, _/_, _%_, _^_, _<_, zero-le, suc-le-suc}
 use native.Mathlib.Nat.{pow-suc, div-one, not-suc-le-zero, le-of-suc-le-suc}
-use native.Mathlib.Numerals.{one-add}
 use native.Mathlib.Omega.{arith}
 use lib.Arith.{lt-one, digits-div, digits-mod}
 use lib.Bits.{bitAnd, bitOr, and-shr, or-shr, and-lt, or-lt}
 use lib.Dec.{eqb, eqb·zero-suc, eqb·suc-zero, eqb·suc-suc}
-use lib.Pow.{shr-shr, pow-pos, pow-lt, ones-sub-lt}
+use lib.Pow.{pow-lt, ones-sub-lt}
 use Rattle.pauli.proofs.Bools.{same-bit}
 use Rattle.pauli.proofs.Every.{bools, at₂}
 use Rattle.encoding.specs.Words.{odd, bit, withBit}

@@ -1,17 +1,17 @@
 -- Unpacking undoes packing: a row that was laid in words, read again. Each word gives back its 64 places, and where the list has ended, I, because the bits
 -- there were packed as 0. Assumes nothing.
-use mathlib.Core.Path.{_≡_, refl, sym, ap, ap₂, _∙_, subst}
-use mathlib.Core.Bool.{Bool, true, false}
+use mathlib.Core.Path.{_≡_, refl, sym, ap, ap₂, _∙_}
+use mathlib.Core.Bool.{Bool}
 use mathlib.Core.List.{List, [], _∷_, _++_}
-use Prim.Native.Nat.{ℕ, zero, suc, _+_, _-_, _*_, _/_, _%_, _≤_, _<_}
+use Prim.Native.Nat.{ℕ, zero, suc, _+_, _-_, _*_, _≤_, _<_}
 use native.Mathlib.Decide.{decLt}
-use native.Mathlib.Nat.{suc-mul, suc-inj, le-of-suc-le-suc, not-suc-le-zero, add-comm}
+use native.Mathlib.Nat.{suc-mul, suc-inj, le-of-suc-le-suc, not-suc-le-zero}
 use native.Mathlib.Omega.{arith}
-use lib.ListN.{length, getD, take, drop, length-append, length-take, length-drop, List·getD-append, List·getD-eq-default}
+use lib.ListN.{length, getD, take, drop, length-append, length-take, length-drop, List·getD-append}
 use lib.Seq.{getD-take, getD-drop, getD-append-add, length-take-le, ext-getD}
 use Rattle.pauli.specs.Pauli.{Pauli, ofBits, hasX, hasZ}
 use Rattle.pauli.specs.declared.PauliMatrix.the-variants.{I}
-use Rattle.encoding.specs.Words.{odd, word, unpack, join, pack, qubits}
+use Rattle.encoding.specs.Words.{word, unpack, join, pack, qubits}
 use Rattle.encoding.proofs.WordLaws.{length-word, join-odd, join-half}
 use Rattle.pauli.proofs.RowLaws.{both-of}
 

@@ -1,21 +1,21 @@
 -- What a pair of words holds: each place is a qubit, packing undoes unpacking and the other way round, the exclusive or of words is the product of
 -- their Paulis, and of a state's word the action. Assumes nothing.
-use mathlib.Core.Path.{_≡_, refl, sym, ap, ap₂, _∙_, subst}
-use mathlib.Core.Bool.{Bool, true, false, not, Bool·beq}
+use mathlib.Core.Path.{_≡_, refl, sym, ap, ap₂, _∙_}
+use mathlib.Core.Bool.{Bool, Bool·beq}
 use mathlib.Core.List.{List, [], _∷_, _++_}
-use Prim.Native.Nat.{ℕ, zero, suc, _+_, _-_, _*_, _/_, _%_, _^_, _≤_, _<_}
-use native.Mathlib.Nat.{pow-suc, div-one, not-suc-le-zero, le-of-suc-le-suc, suc-inj, add-comm, div-lt-iff-lt-mul, zero-add, add-assoc}
+use Prim.Native.Nat.{ℕ, zero, suc, _+_, _*_, _/_, _^_, _<_}
+use native.Mathlib.Nat.{pow-suc, div-one, not-suc-le-zero, le-of-suc-le-suc, suc-inj}
 use native.Mathlib.Numerals.{one-add}
 use native.Mathlib.Omega.{arith}
 use lib.Arith.{lt-one, digits-div, digits-mod}
 use lib.Bits.{bitXor}
 use lib.Pow.{shr-shr}
-use lib.ListN.{length, getD, take, drop}
+use lib.ListN.{length, getD}
 use lib.Seq.{take-at, drop-at}
 use mir.Syntax.{w64}
 use mir.Val.{Fits}
 use Rattle.pauli.specs.Pauli.{Pauli, ofBits, hasX, hasZ, each, total, _·_, mul, turn, turnPhase, act, actPhase}
-use Rattle.pauli.specs.declared.PauliMatrix.the-variants.{I, X, Y, Z}
+use Rattle.pauli.specs.declared.PauliMatrix.the-variants.{I}
 use Rattle.encoding.specs.Words.{odd, bit, word, bits, unpack, unbits, join, pack}
 use Rattle.pauli.specs.Row.{eqP}
 use Rattle.pauli.proofs.Bools.{same-bit}

@@ -10,7 +10,7 @@ use native.Mathlib.Omega.{arith}
 use lib.Bits.{bitXor}
 use lib.ListN.{length, getD, take, drop, set, length-set}
 use lib.Seq.{drop-cons, drop-length}
-use Rattle.pauli.specs.Pauli.{turnPhase, act, actPhase}
+use Rattle.pauli.specs.Pauli.{actPhase}
 use Rattle.encoding.specs.Words.{word, bits, unpack, unbits, pack}
 use Rattle.products.specs.Leaves.{Acted}
 use Rattle.encoding.proofs.WordLaws.{xors, Fit, pack-b, unbits-act, unbits-total}

@@ -5,26 +5,23 @@ use mathlib.Core.Logic.{_⊎_, inl, inr}
 use mathlib.Core.Bool.{Bool, true, false, _&&_, _||_, false≢true}
 use lib.Dec.{eqb, leb}
 use borrow.Author.Tests.{leb-true, eqb-true, eq-eqb, le-leb, lt-leb}
-use mathlib.Core.List.{List, [], _∷_, _++_}
-use Prim.Native.Nat.{ℕ, zero, suc, _+_, _-_, _*_, _%_, _^_, _≤_, _<_, zero-le}
-use native.Mathlib.Nat.{add-sub-cancel-left, le-add-right, lt-of-not-le}
-use native.Mathlib.Decide.{decLt}
+use mathlib.Core.List.{List, _++_}
+use Prim.Native.Nat.{ℕ, _+_, _-_, _*_, _%_, _^_, _≤_, _<_, zero-le}
+use native.Mathlib.Nat.{add-sub-cancel-left, le-add-right}
 use native.Mathlib.Omega.{arith}
-use lib.Arith.{lt-of-le-ne}
 use lib.Bits.{bitXor}
 use lib.ListN.{length, getD, take, drop, set, length-set}
-use lib.Pow.{pow-pos}
-use lib.Seq.{getD-take, getD-drop, take-set-lt, drop-set-add, take-set-le, drop-set-lt}
+use lib.Seq.{take-set-lt, drop-set-add, take-set-le, drop-set-lt}
 use lib.Count.{ones}
 use Rattle.pauli.specs.Pauli.{phases, clashes}
 use Rattle.pauli.proofs.Bools.{and-true, or-true-or, or-left, or-right}
 use Rattle.products.specs.declared.Factor.{Factor}
 use Rattle.encoding.specs.Words.{word}
-use Rattle.encoding.specs.Set.{part, row}
+use Rattle.encoding.specs.Set.{part}
 use Rattle.products.specs.Leaves.{SameLength, Outside, Product, Multiplied, Room, inside, ProductIn}
 use Rattle.encoding.proofs.WordLaws.{Fit, xors}
 use Rattle.products.proofs.RowLaws.{Done, done-none, done-more, done-all, length-xors, front-at}
-use Rattle.encoding.proofs.Parts.{row-end, length-part, getD-part, fit-part}
+use Rattle.encoding.proofs.Parts.{length-part, getD-part, fit-part}
 use Rattle.products.proofs.PartLaws.{part-below, part-above}
 
 -- ---- an element of a part

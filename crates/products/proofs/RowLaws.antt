@@ -1,6 +1,6 @@
 -- What a loop over the words of rows keeps: the words written so far, and counts that with those of the words to come are the whole counts (`Done`,
 -- `Adding`). A word more moves its clashes and its threes from what is to come to what is counted. Assumes nothing.
-use mathlib.Core.Path.{_≡_, refl, sym, ap, ap₂, _∙_, subst}
+use mathlib.Core.Path.{_≡_, refl, sym, ap, ap₂, _∙_}
 use mathlib.Core.List.{List, [], _∷_, _++_}
 use Prim.Native.Nat.{ℕ, zero, suc, _+_, _*_, _%_, _^_, _≤_, _<_, zero-le}
 use native.Mathlib.Nat.{zero-add, suc-inj, not-suc-le-zero, le-of-suc-le-suc}
@@ -9,7 +9,7 @@ use native.Mathlib.Omega.{arith}
 use lib.Bits.{bitXor, xor-lt}
 use lib.ListN.{length, getD, take, drop, set, length-set, drop-of-length-le}
 use native.Mathlib.Decide.{decLt}
-use lib.Seq.{drop-cons, drop-length, drop-nil}
+use lib.Seq.{drop-cons, drop-nil}
 use Rattle.pauli.specs.Pauli.{Pauli, total, phase, mul, phases, clash, clashes}
 use Rattle.encoding.specs.Words.{word, unpack, pack}
 use Rattle.pauli.specs.Pauli.{hasX, hasZ}

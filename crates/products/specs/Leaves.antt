@@ -4,12 +4,12 @@ use mathlib.Core.Path.{_≡_}
 use mathlib.Core.Bool.{Bool, true, false, _&&_, _||_}
 use mathlib.Core.Logic.{_⊎_}
 use mathlib.Core.List.{List, []}
-use Prim.Native.Nat.{ℕ, _+_, _-_, _*_, _%_, _≤_, _<_, min}
+use Prim.Native.Nat.{ℕ, _+_, _%_, _≤_, min}
 use lib.Dec.{eqb, leb}
 use lib.ListN.{length, take, drop}
 use Rattle.pauli.specs.Pauli.{Pauli, mul, phases, clashes, act, actPhase, hasX, hasZ}
-use Rattle.encoding.specs.Words.{unpack, unbits, pack, qubits}
-use Rattle.encoding.specs.Set.{part, row}
+use Rattle.encoding.specs.Words.{unpack, unbits, pack}
+use Rattle.encoding.specs.Set.{part}
 use Rattle.products.specs.declared.Factor.{Factor}
 
 -- all six runs have w words

@@ -3,13 +3,13 @@
 use mathlib.Core.Path.{_≡_, refl, subst, sym, _∙_, ap}
 use mathlib.Core.Logic.{inl, inr}
 use mathlib.Core.List.{List, [], _∷_}
-use Prim.Native.Nat.{ℕ, zero, suc, _<_}
+use Prim.Native.Nat.{ℕ, zero, suc}
 use native.Mathlib.Omega.{arith}
 use Rattle.pauli.specs.declared.PauliMatrix.the-variants.{I, Z}
 use Rattle.pauli.specs.Row.{Row, padMul, mulRow, bitOf, sameQubits}
 use Rattle.encoding.specs.Words.{word, unpack, join, pack, layRows}
 use Rattle.encoding.specs.Set.{Mem, mem, exponentAt, layExponents, rowsIn, rowsOf, list, layIn}
-use Rattle.encoding.specs.Refusals.{joined, some, someBelow, badBits, badPhases, leftOr}
+use Rattle.encoding.specs.Refusals.{joined, some, someBelow, badBits, badPhases}
 use Rattle.reduction.specs.Lists.{In, All, has, distinct, every}
 use Rattle.reduction.specs.Replay.{replay, productOf}
 use Rattle.reduction.specs.Log.{pairs}

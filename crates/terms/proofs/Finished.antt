@@ -24,7 +24,7 @@ use Rattle.reduction.specs.Replay.{replay}
 use Rattle.reduction.specs.Log.{pairs, logged, capacity}
 use Rattle.reduction.specs.Capacity.{Reduced, done, full, capped}
 use Rattle.reduction.specs.Demand.{Asked}
-use Rattle.reduction.proofs.Lists.{all-mono, in-left, in-either, most-below}
+use Rattle.reduction.proofs.Lists.{all-mono, in-left, most-below}
 use Rattle.reduction.proofs.Run.{mulAt-ind}
 use Rattle.reduction.proofs.Log.{pairs-units, cut-logged}
 use Rattle.reduction.proofs.Stop.{run-fits, run-stops}

@@ -1,11 +1,11 @@
 -- `imul` in the words of RULES 4.9 and 4.18: row a becomes the product of the matrices, no other row changes, and the number says whether the rows commuted.
 -- Assumes nothing.
 use mathlib.Core.Path.{_≡_, refl, sym, ap, _∙_, subst}
-use mathlib.Core.Bool.{cond, _||_}
+use mathlib.Core.Bool.{cond}
 use mathlib.Core.Logic.{_↔_}
 use Prim.Native.Nat.{ℕ, zero, suc, _*_, _%_, _≤_, _<_}
 use native.Mathlib.Omega.{arith}
-use borrow.Author.Tests.{leb-false, eq-eqb, ne-eqb}
+use borrow.Author.Tests.{eq-eqb, ne-eqb}
 use Rattle.pauli.specs.Row.{Row, mulRow}
 use Rattle.pauli.specs.Rows.{clashesOf}
 use Rattle.pauli.specs.Matrix.{times, Same, Commute, Anticommute, rowMatrix}
@@ -14,9 +14,7 @@ use Rattle.pauli.proofs.RowTests.{row-with-itself}
 use Rattle.encoding.proofs.Sets.{rows-in}
 use Rattle.encoding.specs.Limits.{wordsOf}
 use Rattle.encoding.specs.Set.{Mem, count, rowsOf, lay}
-use Rattle.encoding.specs.Refusals.{fault, setTests, numberTests, rowsTests, tooLarge, leftOr}
-use Rattle.encoding.proofs.Faults.{joined-fault, least-none, not-large, number-is}
-use Rattle.encoding.proofs.Scan.{none-of}
+use Rattle.encoding.specs.Refusals.{fault, rowsTests, leftOr}
 use Rattle.encoding.proofs.Memory.{Proper, read-lay}
 use Rattle.encoding.proofs.Sets.{read-proper}
 use Rattle.reduction.specs.Rule.{mulAt}

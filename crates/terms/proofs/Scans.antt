@@ -13,7 +13,7 @@ use borrow.Author.Tests.{le-leb, lt-leb, leb-false, eq-eqb, ne-eqb, not-false}
 use lib.Dec.{leb, eqb}
 use lib.ListN.{length, getD, drop, set, replicate, drop-of-length-le}
 use lib.Seq.{drop-cons, getD-set-same, getD-set-other}
-use Rattle.encoding.specs.Refusals.{faultFrom, fault, some, tooLarge}
+use Rattle.encoding.specs.Refusals.{fault, some, tooLarge}
 use Rattle.encoding.proofs.Scan.{none-of, some-none, some-never}
 use Rattle.encoding.proofs.Faults.{no-test, or-none, not-large}
 use Rattle.pauli.proofs.Bools.{not-so}

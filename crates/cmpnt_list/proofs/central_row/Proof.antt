@@ -1,6 +1,6 @@
 -- The row commutes with every row below k: one that it does not commute with ends it with no (`every-not`), any other makes one more
 -- (`every-more`), and below m it is the definition.
-use mathlib.Core.Path.{subst, _≡_, refl, sym, _∙_}
+use mathlib.Core.Path.{subst, _≡_, sym, _∙_}
 use mathlib.Core.Bool.{Bool, true}
 use Prim.Native.Nat.{ℕ, _-_, _<_, _≤_}
 use native.Mathlib.Omega.{arith}

@@ -1,7 +1,6 @@
 -- The number is the first of those of the two sets and of the third. At one nothing is written (`refusing`); where there is none both parts have
 -- passed (`least-none`), so the worker may write, and what it leaves is the answer's (`passing`).
 use mathlib.Core.Path.{refl, sym, _∙_}
-use mathlib.Core.List.{List}
 use Prim.Native.Nat.{ℕ}
 use borrow.Author.Needs.{needs}
 use lib.ListN.{length}

@@ -5,7 +5,7 @@ use mathlib.Core.List.{List}
 use Prim.Native.Nat.{_%_}
 use borrow.Author.Needs.{needs}
 use lib.Dec.{eqb}
-use Rattle.pauli.specs.Pauli.{Pauli, phases, clashes}
+use Rattle.pauli.specs.Pauli.{Pauli, clashes}
 use Rattle.encoding.specs.Limits.{wordsOf}
 use Rattle.encoding.specs.Set.{bare}
 use Rattle.encoding.proofs.RowWords.{commute-is}

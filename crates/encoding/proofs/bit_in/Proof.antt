@@ -1,7 +1,5 @@
-use native.Mathlib.Omega.{arith}
-use mathlib.Core.Path.{_≡_, refl, sym, ap, _∙_}
-use Prim.Native.Nat.{ℕ, _+_, _*_, _-_, _/_, _%_, _<_, _≤_}
-use lib.ListN.{length, getD, drop, take, length-set}
+use mathlib.Core.Path.{sym}
+use Prim.Native.Nat.{_/_, _%_}
 use borrow.Author.Needs.{needs}
 use Rattle.encoding.specs.Words.{bitAt}
 use Rattle.encoding.proofs.Qubits.{no-bit}

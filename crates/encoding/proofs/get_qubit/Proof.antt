@@ -1,9 +1,6 @@
 -- Inside both parts the two bits read are those of the qubit, which they make (`qubit-at`). Past the end of either part the unpacked row has no
 -- qubit there, which is I (`past-x`, `past-z`).
-use native.Mathlib.Omega.{arith}
-use mathlib.Core.Path.{_≡_, refl, sym, ap, _∙_}
-use Prim.Native.Nat.{ℕ, _+_, _*_, _-_, _/_, _<_, _≤_}
-use lib.ListN.{length, getD, drop, take, length-set}
+use mathlib.Core.Path.{sym, _∙_}
 use borrow.Author.Needs.{needs}
 use Rattle.pauli.specs.Pauli.{ofBits}
 use mathlib.Core.Path.{ap₂}

@@ -1,9 +1,6 @@
 -- A return for each rung: at each the tests before it have failed, and that is what the ladder of proofs/Ladder.antt asks for the number that is
 -- given. The last rung is what the function `pick` made of the lengths.
-use native.Mathlib.Omega.{arith}
-use mathlib.Core.Path.{_≡_, refl, sym, ap, _∙_}
-use Prim.Native.Nat.{ℕ, _+_, _*_, _-_, _/_, _<_, _≤_}
-use lib.ListN.{length, getD, drop, take, length-set}
+use mathlib.Core.Path.{refl}
 use borrow.Author.Needs.{needs}
 use Rattle.encoding.specs.Set.{mem}
 use Rattle.encoding.proofs.Ladder.{out-1, out-2, out-3}

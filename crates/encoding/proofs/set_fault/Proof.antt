@@ -1,9 +1,7 @@
 -- A return for each rung: at each the tests before it have failed, and that is what the ladder of proofs/Ladder.antt asks for the number that is
 -- given. Bits are looked at only once the lengths fit, as `bad_bits` requires. Where no number is given, the words are those of rows (`told`).
-use native.Mathlib.Omega.{arith}
-use mathlib.Core.Path.{_≡_, refl, sym, ap, _∙_}
-use Prim.Native.Nat.{ℕ, _+_, _*_, _-_, _/_, _<_, _≤_}
-use lib.ListN.{length, getD, drop, take, length-set}
+use mathlib.Core.Path.{refl, sym, _∙_}
+use lib.ListN.{length}
 use borrow.Author.Needs.{needs}
 use Rattle.encoding.specs.Set.{mem}
 use Rattle.encoding.proofs.Faults.{lengths-fit}

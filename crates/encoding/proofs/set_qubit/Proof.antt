@@ -1,11 +1,7 @@
 -- Inside both parts one bit of one word in each is set as the Pauli has it, and that is setting the qubit (`set-inside`). Past the end of either
 -- part nothing is written, and setting a qubit there does nothing (`set-nothing`).
-use native.Mathlib.Omega.{arith}
-use mathlib.Core.Path.{_≡_, refl, sym, ap, _∙_}
-use Prim.Native.Nat.{ℕ, _+_, _*_, _-_, _/_, _<_, _≤_}
-use lib.ListN.{length, getD, drop, take, length-set}
+use mathlib.Core.Path.{ap, _∙_}
 use borrow.Author.Needs.{needs}
-use Rattle.pauli.specs.Pauli.{hasX, hasZ}
 use Rattle.encoding.specs.Words.{withBit}
 use Rattle.encoding.proofs.Qubits.{inside, outside-x, outside-z, set-nothing, set-inside}
 use Rattle.encoding.proofs.set_qubit.Statement.{statement}

@@ -1,9 +1,5 @@
 -- A return for each rung: at each the tests before it have failed, and that is what the ladder of proofs/Ladder.antt asks for the number that is
 -- given. Where n is a multiple of 64 no bit is spare (`state-none`); else only the last word has spare bits (`state-4`).
-use native.Mathlib.Omega.{arith}
-use mathlib.Core.Path.{_≡_, refl, sym, ap, _∙_}
-use Prim.Native.Nat.{ℕ, _+_, _*_, _-_, _/_, _<_, _≤_}
-use lib.ListN.{length, getD, drop, take, length-set}
 use borrow.Author.Needs.{needs}
 use Rattle.encoding.proofs.Ladder.{state-1, state-3, state-none, state-4}
 use Rattle.encoding.proofs.state_fault.Statement.{statement}

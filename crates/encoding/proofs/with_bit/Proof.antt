@@ -1,7 +1,3 @@
-use native.Mathlib.Omega.{arith}
-use mathlib.Core.Path.{_≡_, refl, sym, ap, _∙_}
-use Prim.Native.Nat.{ℕ, _+_, _*_, _-_, _/_, _<_, _≤_}
-use lib.ListN.{length, getD, drop, take, length-set}
 use Rattle.encoding.proofs.OneBit.{code-on, code-off}
 use borrow.Author.Needs.{needs}
 use Rattle.encoding.proofs.with_bit.Statement.{statement}

@@ -1,9 +1,6 @@
 -- The row acts on the first k words of the state, which are lent on: those words are what the leaf leaves, and what lies behind them is as it was
 -- (`acted-at`).
 use native.Mathlib.Omega.{arith}
-use mathlib.Core.Path.{_≡_, refl, sym, ap, _∙_}
-use Prim.Native.Nat.{ℕ, _+_, _*_, _-_, _/_, _<_, _≤_}
-use lib.ListN.{length, getD, drop, take, length-set}
 use borrow.Author.Needs.{needs}
 use Rattle.products.proofs.PartLaws.{acted-at}
 use Rattle.products.proofs.act_first.Statement.{statement}

@@ -1,5 +1,5 @@
 use native.Mathlib.Omega.{arith}
-use mathlib.Core.Path.{_≡_, ap, _∙_}
+use mathlib.Core.Path.{ap, _∙_}
 use Prim.Native.Nat.{ℕ, _+_, _%_, _^_}
 use borrow.Author.Needs.{needs}
 use Rattle.products.proofs.WordPhase.{apart-clashes, below₄}

@@ -1,14 +1,13 @@
 -- Three tests, then the product: source and target lie in the words, and they are the same or apart. Together they are `inside`; where one
 -- fails, nothing is written (`kept-in`), else the leaf leaves the product in the target's part and the rest as it was (`done-in`).
 use native.Mathlib.Omega.{arith}
-use mathlib.Core.Path.{_≡_, refl, sym, ap, _∙_}
-use Prim.Native.Nat.{ℕ, _+_, _*_, _-_, _/_, _<_, _≤_}
-use lib.ListN.{length, getD, drop, take, length-set}
+use mathlib.Core.Path.{refl, sym, _∙_}
+use Prim.Native.Nat.{_+_}
+use lib.ListN.{length}
 use borrow.Author.Needs.{needs}
 use mathlib.Core.Path.{ap₂}
 use mathlib.Core.Bool.{_&&_}
 use borrow.Author.Tests.{leb-true}
-use Rattle.products.specs.Leaves.{inside}
 use Rattle.products.proofs.InPlace.{room-of, inside-of, outside-s, outside-t, done-in, kept-in}
 use Rattle.pauli.proofs.Bools.{and-true}
 use Rattle.products.proofs.imul_op_op.Statement.{statement}

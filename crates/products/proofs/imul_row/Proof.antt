@@ -1,9 +1,7 @@
 -- In the target's part, words below i are the product's and the others as they were, nothing else has changed, and the two counts with those of the
 -- words from i on are the whole counts (`Inplace`). Source and target are the same or apart, so word i of both is still what it was.
 use borrow.Author.Needs.{needs}
-use native.Mathlib.Omega.{arith}
-use mathlib.Core.Path.{_≡_}
-use Prim.Native.Nat.{ℕ, _-_, _<_}
+use Prim.Native.Nat.{_-_}
 use Rattle.products.proofs.InPlace.{Inplace, inplace-none, inplace-more, multiplied}
 use Rattle.products.proofs.imul_row.Statement.{statement}
 use Rattle.products.proofs.imul_row.Tie as tie

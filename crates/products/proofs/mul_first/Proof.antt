@@ -1,9 +1,6 @@
 -- The product is made in the first k words of the lent ones, which are lent on: those are what the leaf leaves, and what lies behind them is as it
 -- was (`product-at`).
 use native.Mathlib.Omega.{arith}
-use mathlib.Core.Path.{_≡_, refl, sym, ap, _∙_}
-use Prim.Native.Nat.{ℕ, _+_, _*_, _-_, _/_, _<_, _≤_}
-use lib.ListN.{length, getD, drop, take, length-set}
 use borrow.Author.Needs.{needs}
 use Rattle.products.proofs.PartLaws.{product-at}
 use Rattle.products.proofs.mul_first.Statement.{statement}

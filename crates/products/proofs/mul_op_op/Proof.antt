@@ -1,9 +1,7 @@
 -- The smallest of six lengths, got two at a time, is that of the shortest part (`is-shortest`); the product is made up to it, which is all that the
 -- definition gives (`product-up-to`).
-use native.Mathlib.Omega.{arith}
-use mathlib.Core.Path.{_≡_, refl, sym, ap, _∙_}
-use Prim.Native.Nat.{ℕ, _+_, _*_, _-_, _/_, _<_, _≤_}
-use lib.ListN.{length, getD, drop, take, length-set}
+use mathlib.Core.Path.{_≡_, ap, _∙_}
+use lib.ListN.{length}
 use borrow.Author.Needs.{needs}
 use Prim.Native.Nat.{min}
 use Rattle.products.proofs.PartLaws.{product-up-to}

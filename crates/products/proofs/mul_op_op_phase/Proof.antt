@@ -2,9 +2,7 @@
 -- length of the shortest part, past which the definition sums nothing.
 use borrow.Author.Needs.{needs}
 use native.Mathlib.Omega.{arith}
-use mathlib.Core.Path.{_≡_}
-use Prim.Native.Nat.{ℕ, _-_, _≤_}
-use Rattle.products.specs.Leaves.{shortest₄}
+use Prim.Native.Nat.{_-_, _≤_}
 use Rattle.products.proofs.RowLaws.{Adding, adding-none, adding-more, adding-all}
 use Rattle.products.proofs.mul_op_op_phase.Statement.{statement}
 use Rattle.products.proofs.mul_op_op_phase.Tie as tie

@@ -1,9 +1,7 @@
 -- Words below i are the product's and the others as they were, and the two counts with those of the words from i on are the whole counts (`Done`):
 -- a word more moves its clashes and its threes from what is to come to what is counted.
 use borrow.Author.Needs.{needs}
-use native.Mathlib.Omega.{arith}
-use mathlib.Core.Path.{_≡_}
-use Prim.Native.Nat.{ℕ, _-_, _<_}
+use Prim.Native.Nat.{_-_}
 use lib.ListN.{length}
 use Rattle.products.proofs.RowLaws.{Done, done-none, done-more, done-all}
 use Rattle.products.proofs.mul_row.Statement.{statement}

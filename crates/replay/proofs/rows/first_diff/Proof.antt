@@ -6,7 +6,6 @@ use native.Mathlib.Nat.{sub-zero}
 use native.Mathlib.Omega.{arith}
 use borrow.Author.Tests.{not-true, not-false}
 use borrow.Author.Needs.{needs}
-use lib.ListN.{length}
 use Rattle.pauli.specs.Row.{sameRow}
 use Rattle.encoding.specs.Set.{memOf, mem, rowsOf}
 use Rattle.reduction.specs.Checker.{firstDiff}

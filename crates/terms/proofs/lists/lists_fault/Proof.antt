@@ -1,11 +1,10 @@
 -- A return for each line, 6, 7 and 15, each after those before it have failed. The marks of a repeated number have a place for each number, since
 -- 6 has failed and the limits of the tables are no smaller than m and 2n (`raised`).
 use Rattle.encoding.specs.Limits.{maxQubits, maxRows}
-use Rattle.terms.specs.Refused.{largeNumber}
 use Rattle.terms.proofs.Scans.{raised, large-is, no-large, fault-6, fault-7, fault-15}
-use mathlib.Core.Bool.{Bool, true, false}
-use mathlib.Core.Path.{_≡_, sym, _∙_}
-use Prim.Native.Nat.{_+_, _≤_}
+use mathlib.Core.Bool.{true, false}
+use mathlib.Core.Path.{sym, _∙_}
+use Prim.Native.Nat.{_+_}
 use native.Mathlib.Omega.{arith}
 use borrow.Author.Needs.{needs}
 use Rattle.terms.proofs.lists.lists_fault.Statement.{statement}
