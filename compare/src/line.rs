@@ -1,6 +1,6 @@
 //! The lines of docs/CALLS.md, read and written by one table of calls.
 
-use crate::limits::{LINE_LIST, LINE_LOG, LINE_ROWS, LINE_TERMS, LINE_WORDS};
+use crate::limits::{LINE, LINE_LIST, LINE_LOG, LINE_ROWS, LINE_TERMS, LINE_WORDS};
 
 #[derive(Clone, Debug, PartialEq)]
 pub enum Field {
@@ -102,6 +102,9 @@ pub fn is_case(line: &str) -> bool {
 
 /// The case of a line, or nothing where it is not of the form.
 pub fn parsed(line: &str) -> Option<Case> {
+    if line.len() >= LINE {
+        return None;
+    }
     let mut parts = line.split(' ');
     let name = parts.next()?;
     let (call, kinds) = CALLS.iter().find(|c| c.0 == name)?;

@@ -1,13 +1,13 @@
 //! Document 01 in plain words: every line gets its answer, refusals included. Written from the document and its
 //! readings alone.
 
-use crate::limits::{LINE, QUBITS, ROWS, TERMS};
+use crate::limits::{QUBITS, ROWS, TERMS};
 use crate::line::{hexes, joined, parsed, Case, Field};
 use crate::reduction::{first_bad, is_reduced, reduce, replay, Lists};
 use crate::rows::*;
 
 pub fn answer(line: &str) -> String {
-    match parsed(line).filter(|_| line.len() < LINE) {
+    match parsed(line) {
         None => "bad line".to_string(),
         Some(case) => match refusal(&case) {
             Some(number) => format!("refuse {number}"),

@@ -186,7 +186,7 @@ pub(crate) fn check(
 ) -> Put {
     let q = read::read_rows(s, at, x, z, p);
     let l = read::read_lists(s, q.at, order, listed, extra);
-    let u = text::halves_field(s, l.at, log);
+    let u = text::log_field(s, l.at, log);
     let t = read::read_set(s, u.at, x2, z2, p2);
     if !(q.ok & (l.ok & (u.ok & (t.ok & (t.at == s.len()))))) {
         return say::bad(out, r);

@@ -55,7 +55,7 @@ module _ {A : Type 0} {read : List ℕ → Got A} {Item : A → List ℕ → Typ
   longer v (x ∷ l) w u h i f = record { text = w; rest = u; is = refl; first = i; others = f }
 
   -- one item, and then the rest
-  go : (room : ℕ) (s : List ℕ) (vs : List A) (t : List ℕ) → ((u : List ℕ) (ws : List A) → items read room u ≡ got ws t → Some ws × Taken room u ws t) → (g : Got A) → read s ≡ g → more (items read room) g ≡ got vs t → Some vs × Taken (suc room) s vs t
+  go : (room : ℕ) (s : List ℕ) (vs : List A) (t : List ℕ) → ((u : List ℕ) (ws : List A) → items read room u ≡ got ws t → Some ws × Taken room u ws t) → (g : Got A) → read s ≡ g → more false (items read room) g ≡ got vs t → Some vs × Taken (suc room) s vs t
   go room s vs t r none e k = let z : _≡_ {A = ℕ} 0 1 = cc in absurd (omega arith)
   go room s vs t r (got v u) e k = parted (starts 44 u) refl k
     where

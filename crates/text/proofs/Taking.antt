@@ -1,10 +1,10 @@
--- The loop of every list reader, one law for items of any kind: the items taken, before what is left, read on, are the whole list.
+-- The loop of every list reader, one law for items of any kind, in pairs or not: the items taken, before what is left, read on, are the whole list.
 -- A turn takes what is read for an item; where it is none, or there is no room for another, what is left is none too.
-use Rattle.text.proofs.Kit.{_≡_, refl, sym, ap, _∙_, Bool, true, false, cond, _&&_, List, [], _∷_, _++_, append-assoc, append-nil, ℕ, zero, suc, _+_, _-_, _<_, _≤_, arith, add-one, length, take, drop, set, length-set, drop-drop, and-left, and-right}
+use Rattle.text.proofs.Kit.{_≡_, refl, sym, ap, _∙_, subst, Bool, true, false, cond, not, _&&_, List, [], _∷_, _++_, append-assoc, append-nil, ℕ, zero, suc, _+_, _-_, _<_, _≤_, arith, add-one, length, take, drop, set, length-set, drop-drop, and-left, and-right}
 use lib.Seq.{take-suc-set, drop-set-lt}
-use Rattle.text.specs.Readers.{Got, none, got, answer, Reads}
+use Rattle.text.specs.Readers.{Got, none, got, answer, starts, Reads}
 use Rattle.text.specs.Numbers.{noDigit}
-use Rattle.text.specs.Lists.{after, items, dash, list, Fills}
+use Rattle.text.specs.Lists.{after, itemsOf, colon, mark, dash, list, log, Fills}
 use Rattle.text.specs.Lines.{fieldOf}
 use Rattle.text.specs.Workers.{past, Passes, Opens, no-item, an-item, Follows, broken, last, another}
 use Rattle.text.proofs.Places.{behind, both, marked-past}
@@ -21,13 +21,28 @@ module _ (s : List ℕ) (at : ℕ) {first : Bool} {i : ℕ} (p : Passes 32 s at 
   pub opens-item : (room : ℕ) → (sign && plain) ≡ false → Opens s at room room false i
   opens-item room k = an-item (start k) (p .rest) (p .within)
 
-pub follows-end : (s : List ℕ) (j room : ℕ) {comma : Bool} {i : ℕ} → Passes 44 s j comma i → (read : Bool) → (read && comma) ≡ false → Follows s j room read 0 read j
-follows-end s j room p false k = broken refl
-follows-end s j room p true k = last refl (sym (p .is) ∙ k)
+module _ (s : List ℕ) (first : Bool) (j room : ℕ) {m : ℕ} (is : m ≡ mark first) {there : Bool} {i : ℕ} (p : Passes m s j there i) (read : Bool) where
+  passes : Passes (mark first) s j there i
+  passes = subst (λ (c : ℕ). Passes c s j there i) is p
 
-pub follows-item : (s : List ℕ) (j room : ℕ) {comma : Bool} {i : ℕ} → Passes 44 s j comma i → (read : Bool) → (read && comma) ≡ true → Follows s j room read room false i
-follows-item s j room {comma} p read k =
-    let e = and-right read comma k in another (and-left read comma k) (sym (p .is) ∙ e) (behind 44 s j p e) (p .within)
+  pub follows-end : (read && there) ≡ false → Follows s first j room read 0 (read && not first) j
+  follows-end k = go read k
+    where
+      go : (b : Bool) → (b && there) ≡ false → Follows s first j room b 0 (b && not first) j
+      go false k = broken refl
+      go true k = last refl (sym (passes .is) ∙ k)
+
+  pub follows-item : (read && there) ≡ true → Follows s first j room read room false i
+  follows-item k =
+      let e = and-right read there k in
+      another (and-left read there k) (sym (passes .is) ∙ e) (behind (mark first) s j passes e) (p .within)
+
+pub colon-is : {A : Type 0} (read : List ℕ → Got A) (s : List ℕ) (at : ℕ) {ok : Bool} {v : A} {j : ℕ} → Reads read s at ok v j → {c : Bool} → c ≡ starts 58 (drop j s) → (ok && c) ≡ colon (read (drop at s))
+colon-is read s at {ok} {v} {j} r k = rw (r .is, k) (go ok)
+  where
+    go : (b : Bool) → (b && starts 58 (drop j s)) ≡ colon (answer b v (drop j s))
+    go true = refl
+    go false = refl
 
 -- ---- the loop
 
@@ -45,39 +60,27 @@ unfolding list
 list-nothing read h zero = refl
 list-nothing read h (suc room) = rw h
 
-module _ {A : Type 0} (read : List ℕ → Got A) (none-there : read [] ≡ none) (s : List ℕ) (at : ℕ) (o : List A) where
-  -- what is left: an end, or items
-  abbrev Left : ℕ → Bool → List ℕ → Got (List A)
-  Left left ok t = cond ok (got [] t) (items read left t)
+log-nothing : {A : Type 0} (read : List ℕ → Got A) → read [] ≡ none → (room : ℕ) → log read room [] ≡ none
+unfolding log
+log-nothing read h zero = refl
+log-nothing read h (suc room) = rw h
 
-  pub record Taking (p : List A) (n left : ℕ) (ok : Bool) (i : ℕ) : Type 0 where
-    pub all : after (take n p) (Left left ok (drop i s)) ≡ fieldOf (list read) (length o) (drop at s)
+module _ {A : Type 0} (all-of : ℕ → List ℕ → Got (List A)) (read : List ℕ → Got A) (pairs : Bool) (s : List ℕ) (at : ℕ) (o : List A) where
+  -- what is left: an end, or items
+  abbrev Left : ℕ → Bool → Bool → List ℕ → Got (List A)
+  Left left first ok t = cond ok (got [] t) (itemsOf pairs first read left t)
+
+  pub record Taking (p : List A) (n left : ℕ) (first ok : Bool) (i : ℕ) : Type 0 where
+    pub all : after (take n p) (Left left first ok (drop i s)) ≡ all-of (length o) (drop at s)
     pub room : n + left ≤ length o
     pub same : length p ≡ length o
     pub going : 0 < left → ok ≡ false
     pub within : i ≤ length s
     pub rest : drop n p ≡ drop n o
 
-  field-list : fieldOf (list read) (length o) (drop at s) ≡ list read (length o) (past 32 (drop at s))
-  field-list = marked-past (list read (length o)) (list-nothing read none-there (length o)) 32 (drop at s)
-
-  pub begun : {left : ℕ} {ok : Bool} {i : ℕ} → Opens s at (length o) left ok i → Taking o 0 left ok i
-  unfolding list
-  begun (no-item h e w) =
-      record { all = rw (e, field-list, h); room = omega arith; same = refl; going = λ z. absurd (omega arith); within = w; rest = refl }
-  begun {left} {ok} {i} (an-item h e w) =
-      record {
-        all = after-nothing (items read left (drop i s)) ∙ rw (e, field-list, h);
-        room = omega arith;
-        same = refl;
-        going = λ z. refl;
-        within = w;
-        rest = refl;
-      }
-
   -- a turn: what was read is stored, and what follows it is looked at
-  pub turn : {p : List A} {n left : ℕ} {was : Bool} {i : ℕ} → Taking p n left was i → 0 < left → {ok : Bool} {v : A} {j : ℕ} → Reads read s i ok v j → {more : ℕ} {good : Bool} {k : ℕ} → Follows s j (left - 1) ok more good k → Taking (set p n v) (n + 1) more good k
-  turn {p} {n} {left} {was} {i} t h {ok} {v} {j} r f =
+  pub turn : {p : List A} {n left : ℕ} {first was : Bool} {i : ℕ} → Taking p n left first was i → 0 < left → {ok : Bool} {v : A} {j : ℕ} → Reads read s i ok v j → {more : ℕ} {good : Bool} {k : ℕ} → Follows s first j (left - 1) ok more good k → Taking (set p n v) (n + 1) more (pairs && not first) good k
+  turn {p} {n} {left} {first} {was} {i} t h {ok} {v} {j} r f =
       record {
         all = sym (sym (t .all) ∙ (rw (t .going h) (on f)));
         room = omega (arith, most f, t .room);
@@ -93,37 +96,83 @@ module _ {A : Type 0} (read : List ℕ → Got A) (none-there : read [] ≡ none
       one-less : left ≡ suc (left - 1)
       one-less = omega arith
 
-      on : {more : ℕ} {good : Bool} {k : ℕ} → Follows s j (left - 1) ok more good k → after (take n p) (items read left (drop i s)) ≡ after (take (n + 1) (set p n v)) (Left more good (drop k s))
-      on (broken e) = ap (λ (m : ℕ). after (take n p) (items read m (drop i s))) one-less ∙ rw (r .is, e)
-      on (last e g) =
-          ap (λ (m : ℕ). after (take n p) (items read m (drop i s))) one-less ∙ rw (r .is, e, g, taken, append-nil (take n p ++ (v ∷ [])))
-      on (another e g d w) =
-          ap (λ (m : ℕ). after (take n p) (items read m (drop i s))) one-less
-          ∙ rw (r .is, e, g, taken, d) (after-after (take n p) (v ∷ []) (items read (left - 1) (drop 1 (drop j s))))
+      opened : after (take n p) (itemsOf pairs first read left (drop i s)) ≡ after (take n p) (itemsOf pairs first read (suc (left - 1)) (drop i s))
+      opened = ap (λ (m : ℕ). after (take n p) (itemsOf pairs first read m (drop i s))) one-less
 
-      most : {more : ℕ} {good : Bool} {k : ℕ} → Follows s j (left - 1) ok more good k → more ≤ left - 1
+      end : (b : Bool) (t : List ℕ) → after (take n p) (cond b none (got (v ∷ []) t)) ≡ after (take (n + 1) (set p n v)) (cond (not b) (got [] t) none)
+      end true t = refl
+      end false t = rw (taken, append-nil (take n p ++ (v ∷ [])))
+
+      on : {more : ℕ} {good : Bool} {k : ℕ} → Follows s first j (left - 1) ok more good k → after (take n p) (itemsOf pairs first read left (drop i s)) ≡ after (take (n + 1) (set p n v)) (Left more (pairs && not first) good (drop k s))
+      on (broken e) = opened ∙ rw (r .is, e)
+      on (last e g) = opened ∙ rw (r .is, e, g) (end first (drop j s))
+      on (another e g d w) =
+          opened
+          ∙ rw (r .is, e, g, taken, d) (after-after (take n p) (v ∷ []) (itemsOf pairs (pairs && not first) read (left - 1) (drop 1 (drop j s))))
+
+      most : {more : ℕ} {good : Bool} {k : ℕ} → Follows s first j (left - 1) ok more good k → more ≤ left - 1
       most (broken e) = omega arith
       most (last e g) = omega arith
       most (another e g d w) = omega arith
 
-      shut : {more : ℕ} {good : Bool} {k : ℕ} → Follows s j (left - 1) ok more good k → 0 < more → good ≡ false
+      shut : {more : ℕ} {good : Bool} {k : ℕ} → Follows s first j (left - 1) ok more good k → 0 < more → good ≡ false
       shut (broken e) z = refl
       shut (last e g) z = absurd (omega arith)
       shut (another e g d w) z = refl
 
-      here : {more : ℕ} {good : Bool} {k : ℕ} → Follows s j (left - 1) ok more good k → k ≤ length s
+      here : {more : ℕ} {good : Bool} {k : ℕ} → Follows s first j (left - 1) ok more good k → k ≤ length s
       here (broken e) = r .within
       here (last e g) = r .within
       here (another e g d w) = w
 
-  pub ended : {p : List A} {n left : ℕ} {ok : Bool} {i : ℕ} → Taking p n left ok i → left ≤ 0 → {good : Bool} {count next : ℕ} → (good ≡ ok) × (count ≡ n) × (next ≡ i) → Fills (fieldOf (list read)) s at o p good count next
-  ended {p} {n} {left} {ok} {i} t h e =
+  pub ended : {p : List A} {n left : ℕ} {first ok : Bool} {i : ℕ} → Taking p n left first ok i → left ≤ 0 → {good : Bool} {count next : ℕ} → (good ≡ ok) × (count ≡ n) × (next ≡ i) → Fills all-of s at o p good count next
+  ended {p} {n} {left} {first} {ok} {i} t h e =
       rw (e .0, e .1, e .2)
       (record { is = sym (t .all) ∙ go ok; within = t .within; room = omega (arith, t .room); same = t .same; rest = t .rest })
     where
       none-left : left ≡ 0
       none-left = omega arith
 
-      go : (b : Bool) → after (take n p) (Left left b (drop i s)) ≡ answer b (take n p) (drop i s)
+      go : (b : Bool) → after (take n p) (Left left first b (drop i s)) ≡ answer b (take n p) (drop i s)
       go true = ap (λ (l : List A). got l (drop i s)) (append-nil (take n p))
       go false = rw none-left
+
+module _ {A : Type 0} (read : List ℕ → Got A) (none-there : read [] ≡ none) (s : List ℕ) (at : ℕ) (o : List A) where
+  field-list : fieldOf (list read) (length o) (drop at s) ≡ list read (length o) (past 32 (drop at s))
+  field-list = marked-past (list read (length o)) (list-nothing read none-there (length o)) 32 (drop at s)
+
+  field-log : fieldOf (log read) (length o) (drop at s) ≡ log read (length o) (past 32 (drop at s))
+  field-log = marked-past (log read (length o)) (log-nothing read none-there (length o)) 32 (drop at s)
+
+  -- a list, which is flat
+  abbrev pub Flat : List A → ℕ → ℕ → Bool → ℕ → Type 0
+  Flat p n left ok i = Taking (fieldOf (list read)) read false s at o p n left false ok i
+
+  pub begun : {left : ℕ} {ok : Bool} {i : ℕ} → Opens s at (length o) left ok i → Flat o 0 left ok i
+  unfolding list
+  begun (no-item h e w) =
+      record { all = rw (e, field-list, h); room = omega arith; same = refl; going = λ z. absurd (omega arith); within = w; rest = refl }
+  begun {left} {ok} {i} (an-item h e w) =
+      record {
+        all = after-nothing (itemsOf false false read left (drop i s)) ∙ rw (e, field-list, h);
+        room = omega arith;
+        same = refl;
+        going = λ z. refl;
+        within = w;
+        rest = refl;
+      }
+
+  -- a log, of pairs where a colon stands behind its first item
+  pub begun-log : {left : ℕ} {ok : Bool} {i : ℕ} → Opens s at (length o) left ok i → {pairs : Bool} → pairs ≡ colon (read (drop i s)) → Taking (fieldOf (log read)) read pairs s at o o 0 left pairs ok i
+  unfolding log
+  begun-log (no-item h e w) k =
+      record { all = rw (e, field-log, h); room = omega arith; same = refl; going = λ z. absurd (omega arith); within = w; rest = refl }
+  begun-log {left} {ok} {i} (an-item h e w) {pairs} k =
+      record {
+        all = after-nothing (itemsOf pairs pairs read left (drop i s)) ∙ rw (k, e, field-log, h);
+        room = omega arith;
+        same = refl;
+        going = λ z. refl;
+        within = w;
+        rest = refl;
+      }

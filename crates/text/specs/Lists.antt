@@ -1,11 +1,15 @@
--- Lists: items with commas between them, `-` for none.
+-- Lists: items with commas between them, `-` for none; and logs, in pairs with colons (`0:1,1:0`) or flat.
 use mathlib.Core.Path.{_≡_}
-use mathlib.Core.Bool.{Bool, cond, _&&_}
+use mathlib.Core.Bool.{Bool, true, false, cond, not, _&&_}
 use mathlib.Core.List.{List, [], _∷_, _++_}
 use Prim.Native.Nat.{ℕ, zero, suc, _≤_}
 use lib.ListN.{length, take, drop}
 use Rattle.text.specs.Readers.{Got, none, got, answer, starts}
 use Rattle.text.specs.Numbers.{noDigit}
+
+-- what stands between items: a colon behind a pair's first, a comma behind any other
+abbrev pub mark : Bool → ℕ
+mark first = cond first 58 44
 
 module _ {A : Type 0} where
   -- ---- writing
@@ -25,15 +29,24 @@ module _ {A : Type 0} where
   after vs none = none
   after vs (got ws t) = got (vs ++ ws) t
 
-  -- an item, and behind a comma what follows
-  abbrev pub more : (List ℕ → Got (List A)) → Got A → Got (List A)
-  more onward none = none
-  more onward (got v t) = cond (starts 44 t) (after (v ∷ []) (onward (drop 1 t))) (got (v ∷ []) t)
+  -- an item, and behind its mark what follows; a pair's first item is not the last
+  abbrev pub more : Bool → (List ℕ → Got (List A)) → Got A → Got (List A)
+  more first onward none = none
+  more first onward (got v t) = cond (starts (mark first) t) (after (v ∷ []) (onward (drop 1 t))) (cond first none (got (v ∷ []) t))
 
-  -- one item or more, and no more than there is room for
+  -- one item or more, and no more than there is room for; of pairs every other item is a pair's first
+  abbrev pub itemsOf : Bool → Bool → (List ℕ → Got A) → ℕ → List ℕ → Got (List A)
+  itemsOf pairs first read zero s = none
+  itemsOf pairs first read (suc room) s = more first (itemsOf pairs (pairs && not first) read room) (read s)
+
+  -- no pairs
   abbrev pub items : (List ℕ → Got A) → ℕ → List ℕ → Got (List A)
-  items read zero s = none
-  items read (suc room) s = more (items read room) (read s)
+  items read room s = itemsOf false false read room s
+
+  -- a colon stands behind what was read
+  abbrev pub colon : Got A → Bool
+  colon none = false
+  colon (got v t) = starts 58 t
 
 -- a minus that stands for the empty list, and not before a number
 abbrev pub dash : List ℕ → Bool
@@ -41,6 +54,10 @@ dash s = starts 45 s && noDigit (drop 1 s)
 
 unfoldable pub list : {A : Type 0} → (List ℕ → Got A) → ℕ → List ℕ → Got (List A)
 list read room s = cond (dash s) (got [] (drop 1 s)) (items read room s)
+
+-- the same, or pairs where a colon stands behind the first item
+unfoldable pub log : {A : Type 0} → (List ℕ → Got A) → ℕ → List ℕ → Got (List A)
+log read room s = cond (dash s) (got [] (drop 1 s)) (itemsOf (colon (read s)) (colon (read s)) read room s)
 
 -- ---- which texts are read: proofs/Lists.antt has that these are, and no others
 

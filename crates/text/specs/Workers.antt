@@ -1,12 +1,12 @@
 -- What inner functions ask and leave.
 use mathlib.Core.Path.{_≡_}
-use mathlib.Core.Bool.{Bool, true, false, cond}
+use mathlib.Core.Bool.{Bool, true, false, cond, not}
 use mathlib.Core.List.{List, [], _∷_, _++_}
 use Prim.Native.Nat.{ℕ, _+_, _≤_}
 use lib.Dec.{leb}
 use lib.ListN.{length, drop}
 use Rattle.text.specs.Readers.{starts, Added}
-use Rattle.text.specs.Lists.{dash}
+use Rattle.text.specs.Lists.{dash, mark}
 
 -- what stands behind the byte c; nothing where it does not come first
 abbrev pub past : ℕ → List ℕ → List ℕ
@@ -23,11 +23,11 @@ pub data Opens (s : List ℕ) (at room : ℕ) : ℕ → Bool → ℕ → Type 0 
   no-item : {i : ℕ} → dash (past 32 (drop at s)) ≡ true → drop i s ≡ drop 1 (past 32 (drop at s)) → i ≤ length s → Opens s at room 0 true i
   an-item : {i : ℕ} → dash (past 32 (drop at s)) ≡ false → drop i s ≡ past 32 (drop at s) → i ≤ length s → Opens s at room room false i
 
--- the same behind an item, which was read or not, and ends at j
-pub data Follows (s : List ℕ) (j room : ℕ) (read : Bool) : ℕ → Bool → ℕ → Type 0 where
-  broken : read ≡ false → Follows s j room read 0 false j
-  last : read ≡ true → starts 44 (drop j s) ≡ false → Follows s j room read 0 true j
-  another : {i : ℕ} → read ≡ true → starts 44 (drop j s) ≡ true → drop i s ≡ drop 1 (drop j s) → i ≤ length s → Follows s j room read room false i
+-- the same behind an item, a pair's first or not, which was read or not, and ends at j
+pub data Follows (s : List ℕ) (first : Bool) (j room : ℕ) (read : Bool) : ℕ → Bool → ℕ → Type 0 where
+  broken : read ≡ false → Follows s first j room read 0 false j
+  last : read ≡ true → starts (mark first) (drop j s) ≡ false → Follows s first j room read 0 (not first) j
+  another : {i : ℕ} → read ≡ true → starts (mark first) (drop j s) ≡ true → drop i s ≡ drop 1 (drop j s) → i ≤ length s → Follows s first j room read room false i
 
 -- the text v is added to whatever was added before it, where that fitted
 pub record Adds (v p : List ℕ) (ok : Bool) (i : ℕ) (q : List ℕ) (good : Bool) (j : ℕ) : Type 0 where

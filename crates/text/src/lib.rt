@@ -14,6 +14,7 @@ pub use list::bytes_field;
 pub use list::floats_field;
 pub use list::halves_field;
 pub use list::ints_field;
+pub use list::log_field;
 pub use list::words_field;
 pub use read::Read;
 pub use read::ReadFloat;

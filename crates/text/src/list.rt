@@ -1,8 +1,9 @@
 // Lists out of text into lent slices, as fields of a line: a space, and then the list. A list that is longer than its slice is not read;
 // what was taken of it by then stands there.
 ghost use mathlib.Core.Path.{_≡_};
+ghost use lib.ListN.{drop};
 ghost use Rattle.text.specs.Numbers.{number, integer as Numbers·integer, float as Numbers·float};
-ghost use Rattle.text.specs.Lists.{Fills, list};
+ghost use Rattle.text.specs.Lists.{Fills, list, log, colon as Lists·colon, mark as Lists·mark};
 ghost use Rattle.text.specs.Lines.{fieldOf};
 ghost use Rattle.text.specs.Workers.{Opens, Follows};
 use crate::read::decimal;
@@ -11,6 +12,7 @@ use crate::read::hexadecimal;
 use crate::read::integer;
 use crate::read::no_digit;
 use crate::read::past;
+use crate::read::starts;
 
 // Whether there is a list, how many items were taken, and the place behind it.
 pub struct Listed {
@@ -46,21 +48,28 @@ fn opens(s: &[u8], at: usize, room: usize) -> Next
     }
 }
 
-// What stands behind an item, which was read or not: a comma before another, or the list's end.
-fn follows(s: &[u8], read: bool, at: usize, room: usize) -> Next
-    ensures { λ r. ⌜ Follows (now (s .entry)) at room read (r .left) (r .ok) (r .at) ⌝ }
+// What stands between items: a colon behind a pair's first, a comma behind any other.
+fn mark(first: bool) -> u8
+    ensures { λ r. ⌜ r ≡ Lists·mark first ⌝ }
 {
-    let comma = past(b',', s, at);
-    if read & comma.ok {
+    if first { b':' } else { b',' }
+}
+
+// What stands behind an item, which was read or not: a mark before another, or the list's end, which no pair's first is.
+fn follows(s: &[u8], first: bool, read: bool, at: usize, room: usize) -> Next
+    ensures { λ r. ⌜ Follows (now (s .entry)) first at room read (r .left) (r .ok) (r .at) ⌝ }
+{
+    let there = past(mark(first), s, at);
+    if read & there.ok {
         return Next {
             left: room,
             ok: false,
-            at: comma.at,
+            at: there.at,
         };
     }
     Next {
         left: 0,
-        ok: read,
+        ok: read & !first,
         at,
     }
 }
@@ -87,7 +96,7 @@ pub fn words_field(s: &[u8], at: usize, out: &mut [u64]) -> Listed
         let r = hexadecimal(s, p.at);
         out[n] = r.value;
         n += 1;
-        p = follows(s, r.ok, r.at, p.left - 1);
+        p = follows(s, false, r.ok, r.at, p.left - 1);
     }
     taken(p, n)
 }
@@ -101,7 +110,33 @@ pub fn halves_field(s: &[u8], at: usize, out: &mut [u16]) -> Listed
         let r = decimal(s, p.at, 65535);
         out[n] = r.value as u16;
         n += 1;
-        p = follows(s, r.ok, r.at, p.left - 1);
+        p = follows(s, false, r.ok, r.at, p.left - 1);
+    }
+    taken(p, n)
+}
+
+// Whether a colon stands behind the number here.
+fn colon(s: &[u8], at: usize) -> bool
+    ensures { λ r. ⌜ r ≡ Lists·colon (number 10 65535 (drop at (now (s .entry)))) ⌝ }
+{
+    let r = decimal(s, at, 65535);
+    r.ok & starts(b':', s, r.at)
+}
+
+// A log, flat or in pairs: `0,1,1,0` or `0:1,1:0`.
+pub fn log_field(s: &[u8], at: usize, out: &mut [u16]) -> Listed
+    ensures { λ r. ⌜ Fills (fieldOf (log (number 10 65535))) (now (s .entry)) at (now (out .entry)) (now (out .exit)) (r .ok) (r .count) (r .at) ⌝ }
+{
+    let mut n = 0;
+    let mut p = opens(s, at, out.len());
+    let pairs = colon(s, p.at);
+    let mut first = pairs;
+    while p.left > 0 {
+        let r = decimal(s, p.at, 65535);
+        out[n] = r.value as u16;
+        n += 1;
+        p = follows(s, first, r.ok, r.at, p.left - 1);
+        first = pairs & !first;
     }
     taken(p, n)
 }
@@ -115,7 +150,7 @@ pub fn bytes_field(s: &[u8], at: usize, out: &mut [u8]) -> Listed
         let r = decimal(s, p.at, 255);
         out[n] = r.value as u8;
         n += 1;
-        p = follows(s, r.ok, r.at, p.left - 1);
+        p = follows(s, false, r.ok, r.at, p.left - 1);
     }
     taken(p, n)
 }
@@ -131,7 +166,7 @@ pub fn ints_field(s: &[u8], at: usize, out: &mut [i32]) -> Listed
         let v = r.value;
         out[n] = v;
         n += 1;
-        p = follows(s, r.ok, r.at, p.left - 1);
+        p = follows(s, false, r.ok, r.at, p.left - 1);
     }
     taken(p, n)
 }
@@ -145,7 +180,7 @@ pub fn floats_field(s: &[u8], at: usize, out: &mut [f64]) -> Listed
         let r = float(s, p.at);
         out[n] = r.value;
         n += 1;
-        p = follows(s, r.ok, r.at, p.left - 1);
+        p = follows(s, false, r.ok, r.at, p.left - 1);
     }
     taken(p, n)
 }

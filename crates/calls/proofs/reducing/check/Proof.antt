@@ -5,7 +5,7 @@ use Rattle.calls.proofs.reducing.check.Tie as tie
 claimed-requires : tie.Need-claimed-requires
 claimed-requires c κs = let f = c .before .before .before .before .before .before .before .before .before .before .before .before .before .before .before .before .before .before .before .before .before .before .before .before .before .before .before .before .before .before .before .before .before .before .read-rows .ensures in
     let g = c .before .before .before .before .before .before .before .before .before .before .before .before .before .before .before .before .before .before .before .before .before .before .before .before .before .before .before .before .before .before .read-lists .ensures in
-    let h = c .before .before .before .before .before .before .before .before .before .before .before .before .before .before .before .before .before .before .before .before .before .before .before .before .before .before .before .before .halves-field .ensures in
+    let h = c .before .before .before .before .before .before .before .before .before .before .before .before .before .before .before .before .before .before .before .before .before .before .before .before .before .before .before .before .log-field .ensures in
     let k = c .before .before .before .before .before .before .before .before .before .before .before .before .before .before .before .before .before .before .before .before .before .before .before .before .read-set .ensures in
     ((f .room-x, f .room-z, f .room-p), ((g .room-order, g .room-listed, g .room-extra), (omega (arith, h .room, h .same), (k .room-x, k .room-z, k .room-p))))
 
