@@ -9,6 +9,7 @@ pub mod Items
 pub mod OneText
 pub mod Back
 pub mod Lines
+pub mod Logs
 pub mod Writing
 pub mod Adding
 pub mod Listing
