@@ -31,7 +31,7 @@ struct Feed {
 }
 
 fn over() -> Feed
-    ensures { λ r. ⌜ (r .start ≤ r .stop) × (r .stop ≤ 3000000) ⌝ }
+    ensures { λ r. ⌜ (r .start ≤ r .stop) × (r .stop ≤ 3500000) ⌝ }
 {
     Feed {
         whole: false,
@@ -176,7 +176,7 @@ fn refill(buf: &mut [u8; LINE], f: Feed) -> Feed {
 
 // The line at hand: the next one that is whole, or an empty one when more was read.
 fn next(buf: &mut [u8; LINE], out: &[u8; ANSWER], f: Feed) -> Feed
-    ensures { λ r. ⌜ (r .start ≤ r .stop) × (r .stop ≤ 3000000) ⌝ }
+    ensures { λ r. ⌜ (r .start ≤ r .stop) × (r .stop ≤ 3500000) ⌝ }
 {
     let e = line_end(buf, f.scan, f.end);
     if e < f.end {
@@ -190,7 +190,7 @@ fn next(buf: &mut [u8; LINE], out: &[u8; ANSWER], f: Feed) -> Feed
 }
 
 fn at_hand(f: Feed, e: usize) -> Feed
-    ensures { λ r. ⌜ (r .start ≤ r .stop) × (r .stop ≤ 3000000) ⌝ }
+    ensures { λ r. ⌜ (r .start ≤ r .stop) × (r .stop ≤ 3500000) ⌝ }
 {
     if e < f.start {
         return over();
@@ -211,7 +211,7 @@ fn at_hand(f: Feed, e: usize) -> Feed
 
 // No line is whole: an empty one stands at the start.
 fn nothing(f: Feed) -> Feed
-    ensures { λ r. ⌜ (r .start ≤ r .stop) × (r .stop ≤ 3000000) ⌝ }
+    ensures { λ r. ⌜ (r .start ≤ r .stop) × (r .stop ≤ 3500000) ⌝ }
 {
     Feed {
         whole: false,

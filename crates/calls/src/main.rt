@@ -26,7 +26,7 @@ pub(crate) const LOG: usize = 140000;
 pub(crate) const TERMS: usize = 65600;
 
 // The bytes of the longest line, its end among them.
-pub(crate) const LINE: usize = 3000000;
+pub(crate) const LINE: usize = 3500000;
 
 // The longest answer is that of a reduction: 70,000 entries of at most 10 bytes, 9,216 words of 17, 4,160 bytes of 4.
 pub(crate) const ANSWER: usize = 900000;
