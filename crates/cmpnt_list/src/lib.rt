@@ -257,6 +257,48 @@ pub fn phase_of_mul(
     Phase::Exponent(phase_rows(n, phases.len(), x, z, a.0, b.0))
 }
 
+// The exponent of the product of rows a and b, by look-ups.
+fn phase_rows_by_table(
+    n: usize,
+    x: &[u64],
+    z: &[u64],
+    phases: &[u8],
+    a: usize,
+    b: usize,
+) -> ComplexSign
+    requires { ⌜ Sound n (mem (now x) (now z) (now phases)) ⌝ }
+    requires { ⌜ (a < length (now phases)) × (b < length (now phases)) ⌝ }
+    ensures { λ r. ⌜ r .0 ≡ phaseOf n (rowsOf n (mem (now (x .entry)) (now (z .entry)) (now (phases .entry))) a) (rowsOf n (mem (now (x .entry)) (now (z .entry)) (now (phases .entry))) b) ⌝ }
+{
+    let s = row_span(a, n, phases.len());
+    let t = row_span(b, n, phases.len());
+    let la = s.0;
+    let le = s.1;
+    let ra = t.0;
+    let re = t.1;
+    table::mul_op_op_phase_by_table(n, &x[la..le], &z[la..le], &x[ra..re], &z[ra..re])
+}
+
+// The same exponent as `phase_of_mul` gives, on a chip that has no instruction for counting ones.
+pub fn phase_of_mul_by_table(
+    n: usize,
+    x: &[u64],
+    z: &[u64],
+    phases: &[u8],
+    a: RowNumber,
+    b: RowNumber,
+) -> Phase
+    ensures { λ r. ⌜ r ≡ phaseOfMul n (mem (now (x .entry)) (now (z .entry)) (now (phases .entry))) (a .0) (b .0) ⌝ }
+{
+    let i = phases.len() <= a.0;
+    let j = phases.len() <= b.0;
+    let f = row_fault(n, x, z, phases, i | j);
+    if f != 0 {
+        return Phase::Refused(f);
+    }
+    Phase::Exponent(phase_rows_by_table(n, x, z, phases, a.0, b.0))
+}
+
 // Whether rows a and b commute.
 fn commute_rows(n: usize, m: usize, x: &[u64], z: &[u64], a: usize, b: usize) -> bool
     requires { ⌜ Sound n (bitsLent m x z) ⌝ }

@@ -84,7 +84,7 @@ fn shorter(a: usize, b: usize) -> usize
     if a < b { a } else { b }
 }
 
-fn shortest(a: &[u64], b: &[u64], c: &[u64], d: &[u64]) -> usize
+pub fn shortest(a: &[u64], b: &[u64], c: &[u64], d: &[u64]) -> usize
     ensures { λ r. ⌜ r ≡ shortest₄ (now (a .entry)) (now (b .entry)) (now (c .entry)) (now (d .entry)) ⌝ }
 {
     shorter(a.len(), shorter(b.len(), shorter(c.len(), d.len())))
