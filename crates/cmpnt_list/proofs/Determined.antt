@@ -21,6 +21,10 @@ count-one n M r p e f = e ∙ sym f
 pub phase-of-mul-one : (n : ℕ) (M : Mem) (i j : ℕ) {a b : Phase} → a ≡ phaseOfMul n M i j → b ≡ phaseOfMul n M i j → a ≡ b
 phase-of-mul-one n M i j e f = e ∙ sym f
 
+-- the counted engine and the one by look-ups give the same exponent, and refuse with the same number: their contracts are one equation
+pub engines-agree : (n : ℕ) (M : Mem) (i j : ℕ) {counted looked : Phase} → counted ≡ phaseOfMul n M i j → looked ≡ phaseOfMul n M i j → counted ≡ looked
+engines-agree = phase-of-mul-one
+
 pub commutes-with-one : (n : ℕ) (M : Mem) (i j : ℕ) {a b : Truth} → a ≡ commutesWith n M i j → b ≡ commutesWith n M i j → a ≡ b
 commutes-with-one n M i j e f = e ∙ sym f
 
