@@ -266,9 +266,9 @@ fn phase_rows_by_table(
     a: usize,
     b: usize,
 ) -> ComplexSign
-    requires { ⌜ Sound n (mem (now x) (now z) (now phases)) ⌝ }
+    requires { ⌜ Sound n (lent x z phases) ⌝ }
     requires { ⌜ (a < length (now phases)) × (b < length (now phases)) ⌝ }
-    ensures { λ r. ⌜ r .0 ≡ phaseOf n (rowsOf n (mem (now (x .entry)) (now (z .entry)) (now (phases .entry))) a) (rowsOf n (mem (now (x .entry)) (now (z .entry)) (now (phases .entry))) b) ⌝ }
+    ensures { λ r. ⌜ r .0 ≡ phaseOf n (rowsOf n (before x z phases) a) (rowsOf n (before x z phases) b) ⌝ }
 {
     let s = row_span(a, n, phases.len());
     let t = row_span(b, n, phases.len());
@@ -288,7 +288,7 @@ pub fn phase_of_mul_by_table(
     a: RowNumber,
     b: RowNumber,
 ) -> Phase
-    ensures { λ r. ⌜ r ≡ phaseOfMul n (mem (now (x .entry)) (now (z .entry)) (now (phases .entry))) (a .0) (b .0) ⌝ }
+    ensures { λ r. ⌜ r ≡ phaseOfMul n (before x z phases) (a .0) (b .0) ⌝ }
 {
     let i = phases.len() <= a.0;
     let j = phases.len() <= b.0;

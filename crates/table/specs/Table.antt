@@ -1,7 +1,7 @@
 -- RULES 4.19, a phase by look-ups: two qubits at a time, as many look-ups as n qubits need, one padding qubit among them where n is odd. Assumes
 -- nothing.
 use mathlib.Core.List.{List}
-use Prim.Native.Nat.{ℕ, _+_, _*_, _/_, _%_}
+use Prim.Native.Nat.{ℕ, _+_, _/_, _%_}
 use Rattle.pauli.specs.Pauli.{phases}
 use Rattle.encoding.specs.Words.{qubits}
 

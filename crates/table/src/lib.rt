@@ -3,10 +3,8 @@ ghost use mathlib.Core.Path.{_≡_};
 ghost use Prim.Native.Nat.{_+_, _*_, _-_, _%_, _<_, _≤_};
 ghost use Rattle.pauli.specs.Pauli.{phases};
 ghost use Rattle.encoding.specs.Words.{word};
-ghost use lib.Dec.{T};
-ghost use lib.ListN.{length};
 ghost use Rattle.table.specs.Table.{lookups, tablePhase};
-ghost use Rattle.table.specs.Workers.{allRuled, ruleAt};
+ghost use Rattle.table.specs.Workers.{ruleAt, Ruled};
 use pauli::ComplexSign;
 
 // The exponents of the products of two qubits by two qubits. Two bits each of lx, lz, rx and rz make the place, those of rz lowest.
@@ -281,21 +279,23 @@ fn place(lx: u64, lz: u64, rx: u64, rz: u64) -> usize
 
 // The entry at k of a table that follows the rule.
 fn entry(t: &[u8; 256], k: usize) -> u8
-    requires { ⌜ (k < 256) × (length (now t) ≡ 256) × T (allRuled 0 (now t)) ⌝ }
+    requires { ⌜ (k < 256) × Ruled (now t) ⌝ }
     ensures { λ r. ⌜ r ≡ ruleAt k ⌝ }
 {
     t[k]
 }
 
 // The exponent of the product of the two lowest qubits.
-fn look(lx: u64, lz: u64, rx: u64, rz: u64) -> u8
+fn look(t: &[u8; 256], lx: u64, lz: u64, rx: u64, rz: u64) -> u8
+    requires { ⌜ Ruled (now t) ⌝ }
     ensures { λ r. ⌜ r ≡ phases (word 2 lx lz) (word 2 rx rz) % 4 ⌝ }
 {
-    entry(&TABLE, place(lx, lz, rx, rz))
+    entry(t, place(lx, lz, rx, rz))
 }
 
 // The exponent of the product of the 2 k lowest qubits.
-fn look_word(k: usize, lx: u64, lz: u64, rx: u64, rz: u64) -> u8
+fn look_word(t: &[u8; 256], k: usize, lx: u64, lz: u64, rx: u64, rz: u64) -> u8
+    requires { ⌜ Ruled (now t) ⌝ }
     ensures { λ r. ⌜ r ≡ phases (word (k + k) lx lz) (word (k + k) rx rz) % 4 ⌝ }
 {
     let mut left = k;
@@ -305,7 +305,7 @@ fn look_word(k: usize, lx: u64, lz: u64, rx: u64, rz: u64) -> u8
     let mut d = rz;
     let mut e: u8 = 0;
     while left > 0 {
-        e = (e + look(a, b, c, d)) % 4;
+        e = (e + look(t, a, b, c, d)) % 4;
         a = a / 4;
         b = b / 4;
         c = c / 4;
@@ -329,8 +329,26 @@ fn rounds(n: usize) -> usize
     n / 2 + n % 2
 }
 
-// The exponent of the product of two rows of n qubits, by n/2 rounded up look-ups; the parts end with the shortest. Where n is odd, the last look-up
-// has one qubit past n.
+// The same of two rows: n/2 rounded up look-ups, up to the end of the shortest part.
+fn look_row(t: &[u8; 256], n: usize, lx: &[u64], lz: &[u64], rx: &[u64], rz: &[u64]) -> u8
+    requires { ⌜ Ruled (now t) ⌝ }
+    ensures { λ r. ⌜ r ≡ tablePhase n (now (lx .entry)) (now (lz .entry)) (now (rx .entry)) (now (rz .entry)) ⌝ }
+{
+    let m = products::shortest(lx, lz, rx, rz);
+    let mut left = rounds(n);
+    let mut e: u8 = 0;
+    let mut i = 0;
+    while i < m {
+        let k = in_word(left);
+        e = (e + look_word(t, k, lx[i], lz[i], rx[i], rz[i])) % 4;
+        left -= k;
+        i += 1;
+    }
+    e
+}
+
+// The exponent of the product of two rows of n qubits. Where n is odd, the last look-up has one qubit past n. The table is lent down from here: a
+// constant is made where it is named, so that naming it at each look-up would make it each time.
 pub fn mul_op_op_phase_by_table(
     n: usize,
     lx: &[u64],
@@ -340,15 +358,5 @@ pub fn mul_op_op_phase_by_table(
 ) -> ComplexSign
     ensures { λ r. ⌜ r .0 ≡ tablePhase n (now (lx .entry)) (now (lz .entry)) (now (rx .entry)) (now (rz .entry)) ⌝ }
 {
-    let m = products::shortest(lx, lz, rx, rz);
-    let mut left = rounds(n);
-    let mut e: u8 = 0;
-    let mut i = 0;
-    while i < m {
-        let k = in_word(left);
-        e = (e + look_word(k, lx[i], lz[i], rx[i], rz[i])) % 4;
-        left -= k;
-        i += 1;
-    }
-    ComplexSign(e)
+    ComplexSign(look_row(&TABLE, n, lx, lz, rx, rz))
 }

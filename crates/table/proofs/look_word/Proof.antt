@@ -8,13 +8,16 @@ use Rattle.table.proofs.look_word.Statement.{statement}
 use Rattle.table.proofs.look_word.Tie as tie
 
 abbrev Inv-loop : tie.InvT-loop
-Inv-loop k lx lz rx rz left₀ a₀ b₀ c₀ d₀ e₀ left a b c d e = Walk (ahead k lx lz rx rz % 4) left a b c d e
+Inv-loop t k lx lz rx rz left₀ a₀ b₀ c₀ d₀ e₀ left a b c d e = Walk (ahead k lx lz rx rz % 4) left a b c d e
 
 abbrev μ-loop : tie.MeasureT-loop
-μ-loop k lx lz rx rz left₀ a₀ b₀ c₀ d₀ e₀ left a b c d e = left
+μ-loop t k lx lz rx rz left₀ a₀ b₀ c₀ d₀ e₀ left a b c d e = left
 
 loop-holds : tie.Need-loop-holds Inv-loop μ-loop
 loop-holds c = walk-none (c .args .k) (c .args .lx) (c .args .lz) (c .args .rx) (c .args .rz)
+
+look-requires : tie.Need-look-requires Inv-loop μ-loop
+look-requires c κs = c .before .before .pre
 
 loop-again : tie.Need-loop-again Inv-loop μ-loop
 loop-again c =
@@ -27,4 +30,4 @@ returns c = walk-all (c .before .loop .left) (c .before .loop .inv) (omega arith
 pub look-word-spec : {M : Type 1} → statement M
 look-word-spec =
     tie.close
-    (tie.spec Inv-loop μ-loop loop-holds (λ c κs. search needs) (λ c. search needs) (λ c. search needs) (λ c. search needs) loop-again returns)
+    (tie.spec Inv-loop μ-loop loop-holds look-requires (λ c. search needs) (λ c. search needs) (λ c. search needs) loop-again returns)
