@@ -70,7 +70,9 @@ fn own(call: &str) -> &'static [(u8, Fault)] {
     match call {
         "get" | "set" => &[(6, row_too_large), (6, row_far_too_large), (6, second_number_too_large)],
         "count" | "central" => &[(6, row_too_large), (6, row_far_too_large)],
-        "phase" | "comm" | "imul" => &[(6, row_too_large), (6, row_far_too_large), (6, second_row_too_large)],
+        "phase" | "phaset" | "comm" | "imul" => {
+            &[(6, row_too_large), (6, row_far_too_large), (6, second_row_too_large)]
+        }
         "act" => &[(3, state_longer), (3, state_shorter), (4, spare_in_state), (6, row_too_large)],
         "matrix" => &[(3, out_longer), (3, out_shorter)],
         "pair" => &[

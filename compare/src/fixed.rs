@@ -7,7 +7,7 @@ use crate::model;
 use crate::random::Random;
 use crate::rows::{packed, words_for, Pauli, Row, Set};
 use crate::small::{over_sets, plain_terms, singles_and_pairs};
-use crate::{forms, malformed, valid};
+use crate::{engines, forms, malformed, valid};
 
 /// Writes the list and its answers; the number of cases where Rust and model differ, and of the Rust's faults.
 pub fn write(oracle: Option<Vec<String>>, cases: &str, answers: &str) -> usize {
@@ -50,6 +50,7 @@ fn list() -> Vec<String> {
     clashes(&mut out);
     whole_numbers(&mut out);
     signed_pairs(&mut out);
+    engines(&mut out);
     edges_of_the_form(&mut out);
     out
 }
@@ -606,4 +607,21 @@ fn whole_numbers(out: &mut Vec<String>) {
         vec![-1e16, 1e16, 1.0],
     ];
     out.extend(blocks.iter().map(|block| block_of(&block.iter().map(|part| part.to_bits()).collect::<Vec<_>>())));
+}
+
+/// Phases by look-ups, each behind the counted one: rows that differ in the last qubits, and random ones.
+fn engines(out: &mut Vec<String>) {
+    out.push("# phases by look-ups, at n = 0, 1, 2, 3, 63, 64, 65, 4,095 and 4,096".to_string());
+    for n in [1, 2, 3, 63, 64, 65] {
+        engines::last_qubits(n, &mut |line| out.push(line));
+    }
+    let mut random = Random::of(5, 0);
+    for n in engines::QUBITS_OF_ROWS {
+        let set = packed(n, &valid::rows(&mut random, n, 2));
+        let pairs = [(0, 1), (1, 0), (0, 0), (0, 2)];
+        for (a, b) in pairs.into_iter().take(if n > 100 { 1 } else { 4 }) {
+            out.push(with_numbers("phase", n, &set, &[a, b]));
+            out.push(with_numbers("phaset", n, &set, &[a, b]));
+        }
+    }
 }

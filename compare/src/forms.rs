@@ -9,7 +9,7 @@ use crate::small::Sink;
 use crate::valid::call_on;
 
 /// A sound line of each call, with something in every list.
-const LINES: [&str; 17] = [
+const LINES: [&str; 18] = [
     "phase1 1 0 1 1",
     "act1 1 1 1",
     "get 1 1,0 0,1 0,3 1 0",
@@ -17,6 +17,7 @@ const LINES: [&str; 17] = [
     "count 1 1,0 0,1 0,3 1",
     "act 1 1,0 0,1 0,3 1 1",
     "phase 1 1,0 0,1 0,3 0 1",
+    "phaset 1 1,0 0,1 0,3 0 1",
     "comm 1 1,0 0,1 0,3 0 1",
     "matrix 1 1,0 0,1 0,3 2",
     "central 1 1,0 0,1 0,3 1",

@@ -8,6 +8,7 @@
 
 mod cases;
 mod compare;
+mod engines;
 mod faults;
 mod fixed;
 mod forms;

@@ -105,7 +105,7 @@ fn number_too_large(case: &Case, n: usize, m: usize) -> bool {
     match case.call {
         "get" | "set" => row(4) || case.number(5) >= n as u64,
         "count" | "central" | "act" => row(4),
-        "phase" | "comm" | "imul" => row(4) || row(5),
+        "phase" | "phaset" | "comm" | "imul" => row(4) || row(5),
         "reduce" | "check" => columns(4) || rows(5) || rows(6),
         _ => false,
     }
@@ -178,7 +178,7 @@ fn over_set(case: &Case) -> String {
         "set" => set_qubit(case, n, rows),
         "count" => count(&rows[case.number(4) as usize]),
         "act" => act(case, &rows),
-        "phase" => {
+        "phase" | "phaset" => {
             let (a, b) = two(case, &rows);
             format!("ok {}", phase(&a.paulis, &b.paulis))
         }

@@ -11,6 +11,8 @@ pub enum Pauli {
 
 use Pauli::*;
 
+pub const LETTERS: [Pauli; 4] = [I, X, Y, Z];
+
 #[derive(Clone, Debug, PartialEq)]
 pub struct Row {
     pub paulis: Vec<Pauli>,

@@ -75,6 +75,7 @@ fn over_set(n: usize, m: usize, set: &Set, sink: Sink) {
         }
         for b in 0..rows {
             put("phase", numbers(&[row, b]));
+            put("phaset", numbers(&[row, b]));
             put("comm", numbers(&[row, b]));
             put("imul", numbers(&[row, b]));
         }

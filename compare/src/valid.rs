@@ -4,7 +4,7 @@ use crate::limits::{QUBITS, ROWS, UNITS_IN_REACH, WORDS_IN_REACH};
 use crate::line::{Case, Field, CALLS};
 use crate::random::Random;
 use crate::reduction::{reduce, replay, Lists};
-use crate::rows::{multiply, packed, unpacked, words_for, Pauli, Row, Set};
+use crate::rows::{multiply, packed, unpacked, words_for, Pauli, Row, Set, LETTERS};
 
 /// Qubits and rows: mostly few, some at the edges of words, few at the limits.
 pub fn sizes(random: &mut Random) -> (usize, usize) {
@@ -20,8 +20,6 @@ pub fn sizes(random: &mut Random) -> (usize, usize) {
         _ => (random.pick(&[1023, 1024, QUBITS - 1, QUBITS]), random.pick(&[64, 65])),
     }
 }
-
-const LETTERS: [Pauli; 4] = [Pauli::I, Pauli::X, Pauli::Y, Pauli::Z];
 
 fn dense(random: &mut Random, n: usize) -> Vec<Pauli> {
     (0..n).map(|_| random.pick(&LETTERS)).collect()
@@ -118,7 +116,7 @@ pub fn over_rows(random: &mut Random, call: &str, n: usize, rows: Vec<Row>) -> C
         "get" => vec![some(random, m), some(random, n)],
         "set" => vec![some(random, m), some(random, n), Field::Letter(random.pick(&['I', 'X', 'Y', 'Z']))],
         "count" | "central" => vec![some(random, m)],
-        "phase" | "comm" | "imul" => vec![some(random, m), some(random, m)],
+        "phase" | "phaset" | "comm" | "imul" => vec![some(random, m), some(random, m)],
         "act" => vec![some(random, m), Field::Words(state(random, n))],
         // a matrix of many rows has more words than a line may ask for: refused as too short
         "matrix" => vec![Field::Number((m * words_for(m)).min(WORDS_IN_REACH) as u64)],

@@ -45,7 +45,7 @@ fn over_set(call: &str, n: usize, set: Set, f: &mut Fields) -> Option<String> {
         "set" => set_qubit(set, f),
         "count" => count(rows, f),
         "act" => act(n, rows, f),
-        "phase" => phase(rows, f),
+        "phase" | "phaset" => phase(rows, f),
         "comm" => comm(rows, f),
         "matrix" => Some(matrix(rows)),
         "central" => central(rows, f),
