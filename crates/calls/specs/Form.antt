@@ -32,7 +32,7 @@ fourWords = word ∷ word ∷ word ∷ word ∷ []
 abbrev pub threeWords : List Kind
 threeWords = word ∷ word ∷ word ∷ []
 
--- get n X Z P row q; phase, comm, imul n X Z P a b; and before its letter set n X Z P row q L
+-- get n X Z P row q; phase, phaset, comm, imul n X Z P a b; and before its letter set n X Z P row q L
 abbrev pub twoKinds : ℕ → ℕ → ℕ → List Kind
 twoKinds i j k = rowsKinds i j k ++ (any ∷ any ∷ [])
 

@@ -72,6 +72,9 @@ fn of_set(
     if is(s, n, b"phase") {
         return rows::phase(s, n, x, z, p, out, r);
     }
+    if is(s, n, b"phaset") {
+        return rows::phase_by_table(s, n, x, z, p, out, r);
+    }
     if is(s, n, b"comm") {
         return rows::comm(s, n, x, z, p, out, r);
     }
@@ -202,6 +205,7 @@ fn early(s: &[u8], n: usize) -> bool {
         | is(s, n, b"act1")
         | is(s, n, b"get")
         | is(s, n, b"phase")
+        | is(s, n, b"phaset")
         | is(s, n, b"comm")
         | is(s, n, b"count")
         | is(s, n, b"central")

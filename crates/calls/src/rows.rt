@@ -60,6 +60,34 @@ pub(crate) fn phase(
     say::phase(out, r, a)
 }
 
+// The same exponent, by look-ups.
+pub(crate) fn phase_by_table(
+    s: &[u8],
+    at: usize,
+    x: &mut [u64],
+    z: &mut [u64],
+    p: &mut [u8],
+    out: &mut [u8],
+    r: Put,
+) -> Put {
+    let q = read::read_two(s, at, x, z, p);
+    if !(q.ok & (q.at == s.len())) {
+        return say::bad(out, r);
+    }
+    let i = q.x;
+    let j = q.z;
+    let k = q.p;
+    let a = cmpnt_list::phase_of_mul_by_table(
+        q.n,
+        &x[0..i],
+        &z[0..j],
+        &p[0..k],
+        RowNumber(q.a),
+        RowNumber(q.b),
+    );
+    say::phase(out, r, a)
+}
+
 pub(crate) fn comm(
     s: &[u8],
     at: usize,
