@@ -5,6 +5,8 @@ use Prim.Native.Nat.{ℕ}
 use lib.Ieee.{Float}
 use Rattle.encoding.specs.declared.Answer.{Answer}
 use Rattle.encoding.specs.declared.Answer.the-variants as answer
+use Rattle.cmpnt_list.specs.declared.Phase.{Phase}
+use Rattle.cmpnt_list.specs.declared.Phase.the-variants as phase
 use Rattle.terms.specs.Calls.{reducedNumber}
 use Rattle.terms.specs.declared.Clashes.{Clashes}
 use Rattle.terms.specs.declared.Clashes.the-variants as clash
@@ -31,6 +33,24 @@ numberOf (answer.Refused k) = k
 
 abbrev pub Number : ℕ → Answer → Type 0
 Number r a = r ≡ numberOf a
+
+-- ---- the exponent of a product; where it is refused the exponent stays as it was
+
+abbrev pub phaseNumber : Phase → ℕ
+phaseNumber (phase.Exponent e) = 0
+phaseNumber (phase.Refused k) = k
+
+abbrev pub exponentOr : ℕ → Phase → ℕ
+exponentOr old (phase.Exponent e) = e .0
+exponentOr old (phase.Refused k) = old
+
+-- an answer that the call's contract gives as an equation
+abbrev pub Exactly : Phase → Phase → Type 0
+Exactly b a = a ≡ b
+
+pub record Phased (exponent exponent′ r : ℕ) (a : Phase) : Type 0 where
+  pub number : r ≡ phaseNumber a
+  pub turned : exponent′ ≡ exponentOr exponent a
 
 -- ---- a product in place: the number of clashes; where it is refused the number stays as it was
 

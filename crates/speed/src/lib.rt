@@ -1,11 +1,12 @@
 // The calls that are measured, exported under names that begin with the crate's: thin, each under the contract of the call itself.
 ghost use mathlib.Core.Path.{_≡_};
 ghost use Rattle.encoding.specs.Lent.{before, after};
-ghost use Rattle.cmpnt_list.specs.Calls.{CompatibilityMatrix, MulPairwise};
+ghost use Rattle.cmpnt_list.specs.Calls.{CompatibilityMatrix, MulPairwise, phaseOfMul};
 ghost use Rattle.terms.specs.Calls.{Multiplies, ReducesAll, reducedNumber};
 ghost use Rattle.replay.specs.Check.{task, claim};
 ghost use Rattle.mat_elem.specs.float.Product.{MatElem};
-ghost use Rattle.speed.specs.Told.{Told, Number, numberOf, productNumber, clashesOr, Multiplied, Counted, entriesOr, pivotsOr, verdictNumber, placeOr, Placed, CheckedOn, Parted, elementNumber, realOr, imagOr};
+ghost use Rattle.speed.specs.Told.{Told, Number, numberOf, Phased, Exactly, phaseNumber, exponentOr, productNumber, clashesOr, Multiplied, Counted, entriesOr, pivotsOr, verdictNumber, placeOr, Placed, CheckedOn, Parted, elementNumber, realOr, imagOr};
+use cmpnt_list::Phase;
 use encoding::Answer;
 use mat_elem::float::Element;
 use pauli::RowNumber;
@@ -63,6 +64,45 @@ pub extern "C" fn speed_cmpnts_mul_pairwise(
         (now (clashes .exit))) (Number r) ⌝ }
 {
     number(cmpnt_list::cmpnts_mul_pairwise(n, lx, lz, lp, rx, rz, rp, ox, oz, op, clashes))
+}
+
+struct Turn {
+    number: u8,
+    exponent: u8,
+}
+
+// What is seen of the exponent of a product, with the one that stays where there is none.
+fn phased(a: Phase, exponent: u8) -> Turn
+    ensures { λ r. ⌜ (r .number ≡ phaseNumber a) × (r .exponent ≡ exponentOr exponent a) ⌝ }
+{
+    match a {
+        Phase::Exponent(e) => Turn {
+            number: 0,
+            exponent: e.0,
+        },
+        Phase::Refused(k) => Turn {
+            number: k,
+            exponent,
+        },
+    }
+}
+
+#[no_mangle]
+pub extern "C" fn speed_phase_of_mul_by_table(
+    n: usize,
+    x: &[u64],
+    z: &[u64],
+    phases: &[u8],
+    a: usize,
+    b: usize,
+    exponent: &mut u8,
+) -> u8
+    ensures { λ r. ⌜ Told (Exactly (phaseOfMul n (before x z phases) a b)) (Phased (now (exponent .entry)) (now (exponent .exit)) r) ⌝ }
+{
+    let e = cmpnt_list::phase_of_mul_by_table(n, x, z, phases, RowNumber(a), RowNumber(b));
+    let s = phased(e, *exponent);
+    *exponent = s.exponent;
+    s.number
 }
 
 struct Product {
