@@ -40,7 +40,7 @@ unfolding byRank
 log-number s units ey ex = ex ∙ ap (cond (not (eqb s 0)) s) ey
 
 -- a number, or else the lines below it
-first-of : (s : ℕ) (ls : List TableLine) → byRank (line s (not (eqb s 0)) ∷ ls) ≡ orElse s (byRank ls)
+pub first-of : (s : ℕ) (ls : List TableLine) → byRank (line s (not (eqb s 0)) ∷ ls) ≡ orElse s (byRank ls)
 unfolding byRank
 first-of zero ls = refl
 first-of (suc s) ls = ap (λ b. cond (not b) (suc s) (byRank ls)) (ne-eqb (suc s) 0 (λ z. suc-ne-zero s z))

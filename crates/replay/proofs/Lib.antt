@@ -8,3 +8,8 @@ pub mod Demand
 pub mod OwnLog
 pub mod Examples
 pub mod Witness
+pub mod Inverse
+pub mod Back
+pub mod TakenBack
+pub mod Walking
+pub mod WalkedBack

@@ -69,7 +69,7 @@ yes-left {T} {L} {left} c =
 -- ---- our own finished logs
 
 -- two parts that refuse nothing
-none-both : (ts us : List Bool) → fault ts ≡ 0 → fault us ≡ 0 → fault (joined ts us) ≡ 0
+pub none-both : (ts us : List Bool) → fault ts ≡ 0 → fault us ≡ 0 → fault (joined ts us) ≡ 0
 unfolding least
 none-both ts us p q = sym (joined-fault ts us) ∙ ap₂ least p q
 
@@ -77,7 +77,7 @@ counts-pass : {m k : ℕ} → k ≡ m → fault (differentRows m k) ≡ 0
 unfolding faultFrom
 counts-pass {m} {k} e = simp (eq-eqb k m e)
 
-log-passes : (k units : ℕ) → units ≡ 2 * k → odd units ≡ false
+pub log-passes : (k units : ℕ) → units ≡ 2 * k → odd units ≡ false
 log-passes k units e = ne-eqb (units % 2) 1 (λ o. omega arith)
 
 -- the first differing row goes by the claimed rows below m

@@ -16,6 +16,7 @@ use terms::reduce_fault;
 mod entries;
 mod form;
 mod rows;
+pub mod undo;
 
 // What the checker says of a claim.
 pub enum Verdict {
@@ -25,6 +26,14 @@ pub enum Verdict {
     Differs(usize),
     NotReduced,
     Yes,
+    Refused(u8),
+}
+
+// What walking a log back answers.
+pub enum Undone {
+    // The first bad entry of the log, counted in pairs from 0.
+    BadEntry(usize),
+    Done,
     Refused(u8),
 }
 
@@ -39,7 +48,7 @@ fn claim_fault(n: usize, m: usize, cx: &[u64], cz: &[u64], cphases: &[u8]) -> u8
 }
 
 // What was found before the log is looked at, or else 9 for a log of odd length, or 0.
-fn log_fault(earlier: u8, units: usize) -> u8
+pub(crate) fn log_fault(earlier: u8, units: usize) -> u8
     ensures { λ r. ⌜ r ≡ byRank (line earlier (not (eqb earlier 0)) ∷ oddLog units ∷ []) ⌝ }
 {
     let found = earlier != 0;

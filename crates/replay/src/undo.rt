@@ -1,0 +1,103 @@
+// Walking a log back: the entries are tested as the checker tests them, and then taken back, the last one first.
+ghost use mathlib.Core.Path.{_≡_};
+ghost use mathlib.Core.List.{[]};
+ghost use Rattle.encoding.specs.Set.{mem};
+ghost use Rattle.reduction.specs.Log.{pairs};
+ghost use Rattle.terms.specs.Refused.{Reducible};
+ghost use Rattle.replay.specs.Undo.{Undoes};
+ghost use Rattle.replay.specs.Workers.{turned, mulBackIn, takenBack, Walked};
+use crate::Undone;
+use crate::entries::first_bad;
+use crate::log_fault;
+use pauli::RowNumber;
+use products::add_signs;
+use terms::reduce_fault;
+use terms::rows::imul_unchecked;
+
+// The phase byte of row a gets twice that of row b: what lies between the product by row b and that by its inverse.
+fn turn(phases: &mut [u8], a: usize, b: usize)
+    ensures { λ _. ⌜ now (phases .exit) ≡ turned a b (now (phases .entry)) ⌝ }
+{
+    if a < phases.len() {
+        if b < phases.len() {
+            let e = phases[b];
+            phases[a] = add_signs(phases[a], e, e);
+        }
+    }
+}
+
+// Row a is multiplied by the inverse of row b.
+fn imul_inverse(
+    n: usize,
+    x: &mut [u64],
+    z: &mut [u64],
+    phases: &mut [u8],
+    a: RowNumber,
+    b: RowNumber,
+)
+    ensures { λ _. ⌜ mem (now (x .exit)) (now (z .exit)) (now (phases .exit))
+        ≡ mulBackIn n (a .0) (b .0) (mem (now (x .entry)) (now (z .entry)) (now (phases .entry))) ⌝ }
+{
+    imul_unchecked(n, x, z, phases, a, b);
+    turn(phases, a.0, b.0);
+}
+
+// All entries are taken back, the last one first.
+fn take_back(n: usize, x: &mut [u64], z: &mut [u64], phases: &mut [u8], log: &[u16])
+    ensures { λ _. ⌜ mem (now (x .exit)) (now (z .exit)) (now (phases .exit))
+        ≡ takenBack n (pairs (now (log .entry))) (mem (now (x .entry)) (now (z .entry)) (now (phases .entry))) ⌝ }
+{
+    let h = log.len() / 2;
+    let mut i = 0;
+    while i < h {
+        let k = h - i - 1;
+        let j = k + k;
+        let a = RowNumber(log[j] as usize);
+        let b = RowNumber(log[j + 1] as usize);
+        imul_inverse(n, x, z, phases, a, b);
+        i += 1;
+    }
+}
+
+// What nothing refuses: all entries are tested, then all are taken back.
+fn walk_back(
+    n: usize,
+    x: &mut [u64],
+    z: &mut [u64],
+    phases: &mut [u8],
+    listed: &[u16],
+    extra: &[u16],
+    log: &[u16],
+) -> Undone
+    requires { ⌜ Reducible n [] (now listed) (now extra) (mem (now x) (now z) (now phases)) ⌝ }
+    ensures { λ r. ⌜ Walked n (now (listed .entry)) (now (extra .entry)) (now (log .entry))
+        (mem (now (x .entry)) (now (z .entry)) (now (phases .entry))) (mem (now (x .exit)) (now (z .exit)) (now (phases .exit))) r ⌝ }
+{
+    let b = first_bad(log, listed, extra);
+    if b < log.len() / 2 {
+        return Undone::BadEntry(b);
+    }
+    take_back(n, x, z, phases, log);
+    Undone::Done
+}
+
+// Rows that a log led to become those that it started from; at a refusal or a bad entry they are unchanged.
+pub fn undo(
+    n: usize,
+    x: &mut [u64],
+    z: &mut [u64],
+    phases: &mut [u8],
+    listed: &[u16],
+    extra: &[u16],
+    log: &[u16],
+) -> Undone
+    ensures { λ r. ⌜ Undoes n (now (listed .entry)) (now (extra .entry)) (now (log .entry))
+        (mem (now (x .entry)) (now (z .entry)) (now (phases .entry))) (mem (now (x .exit)) (now (z .exit)) (now (phases .exit))) r ⌝ }
+{
+    let f = reduce_fault(n, x, z, phases, &log[0..0], listed, extra);
+    let g = log_fault(f, log.len());
+    if g != 0 {
+        return Undone::Refused(g);
+    }
+    walk_back(n, x, z, phases, listed, extra, log)
+}
