@@ -9,7 +9,6 @@ use native.Mathlib.Omega.{arith}
 use borrow.Author.Tests.{eq-eqb}
 use lib.ListN.{length, getD, take, replicate}
 use Rattle.pauli.specs.declared.PauliMatrix.the-variants.{I, X, Y, Z}
-use Rattle.pauli.specs.Gauss.{_⊗_}
 use Rattle.pauli.specs.Pauli.{Pauli, _·_, phases}
 use Rattle.pauli.specs.Row.{Row, padMul, identity, expo, mulRow, sameRow}
 use Rattle.pauli.specs.Matrix.{matrix, times, Same, onQubits, rowMatrix, basis}

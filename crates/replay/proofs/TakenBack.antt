@@ -1,49 +1,31 @@
 -- Entries taken back in memory: the leaf multiplies row a by the inverse of row b, where both are rows of the set and differ; so the entries, the last one
 -- first, leave the rows walked back. Assumes nothing.
-use mathlib.Core.Path.{_≡_, refl, sym, ap, ap₂, _∙_, subst, fun-ext}
-use mathlib.Core.Bool.{Bool, true, false, cond, _&&_}
+use mathlib.Core.Path.{_≡_, refl, sym, ap, _∙_, subst, fun-ext}
+use mathlib.Core.Bool.{cond}
 use mathlib.Core.List.{List, [], _∷_}
-use Prim.Native.Nat.{ℕ, _+_, _-_, _*_, _/_, _%_, _<_, _≤_}
+use Prim.Native.Nat.{ℕ, _+_, _*_, _/_, _%_, _<_}
 use native.Mathlib.Decide.{ℕ-discrete}
 use native.Mathlib.Omega.{arith}
-use borrow.Author.Tests.{eqb-true, eqb-false, eq-eqb, ne-eqb, lt-ltb, le-ltb}
-use lib.Dec.{eqb, ltb}
-use lib.ListN.{length, getD, drop, set, length-set}
-use lib.Seq.{getD-set-same, getD-set-other}
+use borrow.Author.Tests.{eqb-true, eqb-false, eq-eqb, ne-eqb}
+use lib.Dec.{eqb}
+use lib.ListN.{length, getD, drop}
 use Rattle.pauli.specs.Row.{Row, mulRow}
 use Rattle.pauli.proofs.Bools.{cond-ind}
 use Rattle.pauli.proofs.RowLaws.{row-eq}
 use Rattle.encoding.specs.Limits.{wordsOf}
-use Rattle.encoding.specs.Words.{qubits}
-use Rattle.encoding.specs.Set.{row, Mem, mem, count, rowsIn, rowsOf, lay, Valid, Sound}
+use Rattle.encoding.specs.Set.{Mem, memOf, count, exponentAt, withExponent, rowsIn, rowsOf, lay, Valid, Sound}
 use Rattle.encoding.proofs.Memory.{laid}
+use Rattle.encoding.proofs.Exponents.{laid-long, laid-with, exponent-same, exponent-other}
 use Rattle.reduction.specs.Lists.{All}
-use Rattle.reduction.specs.Rule.{Entry, entry, mulAt}
+use Rattle.reduction.specs.Rule.{Entry, mulAt}
 use Rattle.reduction.specs.Log.{pairs}
-use Rattle.reduction.proofs.Lists.{all-mono}
 use Rattle.reduction.proofs.Log.{pairs-at, pairs-end}
 use Rattle.terms.specs.Leaves.{mulIn}
 use Rattle.terms.proofs.RowView.{mul-view}
-use Rattle.replay.specs.Undo.{inverse, mulInverse, undo}
+use Rattle.replay.specs.Undo.{mulInverse, undo}
 use Rattle.replay.specs.Workers.{turned, mulBackIn, takenBack}
 use Rattle.replay.proofs.Inverse.{inverse-after}
 use Rattle.replay.proofs.Back.{Apart}
-
--- ---- the phase byte, as the code comes to it
-
-module _ (a b : ℕ) (es : List ℕ) where
-  by : {p q : Bool} → ltb a (length es) ≡ p → ltb b (length es) ≡ q → turned a b es ≡ cond (p && q) (set es a ((getD es a 0 + getD es b 0 + getD es b 0) % 4)) es
-  unfolding turned
-  by e f = ap₂ (λ p q. cond (p && q) (set es a ((getD es a 0 + getD es b 0 + getD es b 0) % 4)) es) e f
-
-  pub turn-both : {v : ℕ} → a < length es → b < length es → v ≡ (getD es a 0 + getD es b 0 + getD es b 0) % 4 → set es a v ≡ turned a b es
-  turn-both h g e = ap (set es a) e ∙ sym (by (lt-ltb a (length es) h) (lt-ltb b (length es) g))
-
-  pub turn-not-b : a < length es → length es ≤ b → es ≡ turned a b es
-  turn-not-b h g = sym (by (lt-ltb a (length es) h) (le-ltb b (length es) g))
-
-  pub turn-not-a : length es ≤ a → es ≡ turned a b es
-  turn-not-a h = sym (by (le-ltb a (length es) h) refl)
 
 -- memory that holds the rows σ, as many as M
 pub record Backed (n : ℕ) (M : Mem) (σ : ℕ → Row) (M′ : Mem) : Type 0 where
@@ -59,18 +41,13 @@ module _ {n : ℕ} {M : Mem} (s : Sound n M) (a b : ℕ) (ha : a < count M) (hb 
 
   many : count N ≡ count M
   unfolding N
-  many = mul-view s a b ha hb .keeps .e-len
+  many = mul-view s a b ha hb .keeps .many
 
   value : ℕ
-  value = (getD (N .es) a 0 + getD (N .es) b 0 + getD (N .es) b 0) % 4
+  value = (exponentAt (N .es) a + exponentAt (N .es) b + exponentAt (N .es) b) % 4
 
   N′ : Mem
-  N′ = mem (N .xs) (N .zs) (set (N .es) a value)
-
-  turned-is : turned a b (N .es) ≡ set (N .es) a value
-  unfolding turned value
-  turned-is =
-      ap₂ (λ p q. cond (p && q) (set (N .es) a value) (N .es)) (lt-ltb a (count N) (subst (λ k. a < k) (sym many) ha)) (lt-ltb b (count N) (subst (λ k. b < k) (sym many) hb))
+  N′ = memOf (count N) (N .xs) (N .zs) (withExponent (N .es) a value)
 
   -- the rows after the product
   at : (k : ℕ) → rowsOf n N k ≡ mulAt (mulRow n) (rowsOf n M) a b k
@@ -85,13 +62,13 @@ module _ {n : ℕ} {M : Mem} (s : Sound n M) (a b : ℕ) (ha : a < count M) (hb 
   unfolding mulAt
   at-other k other = at k ∙ ap (λ t. cond t (mulRow n (rowsOf n M a) (rowsOf n M b)) (rowsOf n M k)) (ne-eqb k a other)
 
-  byte-a : getD (N .es) a 0 ≡ mulRow n (rowsOf n M a) (rowsOf n M b) .p
+  exponent-a : exponentAt (N .es) a ≡ mulRow n (rowsOf n M a) (rowsOf n M b) .p
   unfolding rowsIn
-  byte-a = ap (λ (r : Row). r .p) at-a
+  exponent-a = ap (λ (r : Row). r .p) at-a
 
-  byte-b : getD (N .es) b 0 ≡ rowsOf n M b .p
+  exponent-b : exponentAt (N .es) b ≡ rowsOf n M b .p
   unfolding rowsIn
-  byte-b = ap (λ (r : Row). r .p) (at-other b (λ e. ne (sym e)))
+  exponent-b = ap (λ (r : Row). r .p) (at-other b (λ e. ne (sym e)))
 
   small-b : rowsOf n M b .p < 4
   unfolding rowsIn
@@ -99,10 +76,21 @@ module _ {n : ℕ} {M : Mem} (s : Sound n M) (a b : ℕ) (ha : a < count M) (hb 
 
   new : value ≡ (mulRow n (rowsOf n M a) (rowsOf n M b) .p + 2 * (rowsOf n M b .p)) % 4
   unfolding value
-  new = omega (arith, byte-a, byte-b)
+  new = omega (arith, exponent-a, exponent-b)
 
-  a-in : a < length (N .es)
+  a-in : a < count N
   a-in = subst (λ k. a < k) (sym many) ha
+
+  valid : Valid n (wordsOf n) N
+  unfolding N
+  valid = mul-view s a b ha hb .keeps .sound .valid
+
+  low : value < 4
+  unfolding value
+  low = omega arith
+
+  written : exponentAt (withExponent (N .es) a value) a ≡ value
+  written = exponent-same (N .es) a value (laid-long (count N) (valid .exponents)) a-in low
 
   rows-back : rowsOf n N′ ≡ mulAt (mulInverse n) (rowsOf n M) a b
   unfolding mulAt rowsIn N′
@@ -113,46 +101,37 @@ module _ {n : ℕ} {M : Mem} (s : Sound n M) (a b : ℕ) (ha : a < count M) (hb 
     where
       here : rowsOf n N′ a ≡ mulInverse n (rowsOf n M a) (rowsOf n M b)
       here =
-          row-eq (ap (λ (r : Row). r .ps) at-a) (getD-set-same (N .es) a value 0 a-in ∙ new)
+          row-eq (ap (λ (r : Row). r .ps) at-a) (written ∙ new)
           ∙ sym (inverse-after n (rowsOf n M a) (rowsOf n M b) small-b)
 
       there : (k : ℕ) → (k ≡ a → ⊥) → rowsOf n N′ k ≡ rowsOf n M k
-      there k other = row-eq refl (getD-set-other (N .es) a k value 0 other) ∙ at-other k other
-
-  low : value < 4
-  unfolding value
-  low = omega arith
+      there k other = row-eq refl (exponent-other (N .es) a value k other) ∙ at-other k other
 
   sound-back : Sound n N′
   unfolding N′ N
   sound-back =
       let h = mul-view s a b ha hb .keeps .sound in
-      let v = h .valid in
-      let l : count N′ ≡ count N = length-set (N .es) a value in
       record {
         valid =
             record {
-              wide = v .wide;
-              x-long = v .x-long ∙ ap (λ k. k * wordsOf n) (sym l);
-              z-long = v .z-long ∙ ap (λ k. k * wordsOf n) (sym l);
-              packed = λ r g. v .packed r (subst (λ k. r < k) l g);
+              wide = valid .wide;
+              x-long = valid .x-long;
+              z-long = valid .z-long;
+              packed = valid .packed;
               small = λ r. go r (ℕ-discrete r a);
+              exponents = laid-with (N .es) a value (count N) (valid .exponents);
             };
         few-qubits = h .few-qubits;
-        few-rows = omega (arith, l, h .few-rows);
+        few-rows = h .few-rows;
       }
     where
-      go : (r : ℕ) → Dec (r ≡ a) → getD (set (N .es) a value) r 0 < 4
-      go r (yes t) = subst (λ k. getD (set (N .es) a value) k 0 < 4) (sym t) (subst (λ k. k < 4) (sym (getD-set-same (N .es) a value 0 a-in)) low)
-      go r (no t) = subst (λ k. k < 4) (sym (getD-set-other (N .es) a r value 0 t)) (mul-view s a b ha hb .keeps .sound .valid .small r)
-
-  back-is : N′ ≡ mulBackIn n a b M
-  unfolding mulBackIn N′ N
-  back-is = ap (λ es. mem (N .xs) (N .zs) es) (sym turned-is)
+      go : (r : ℕ) → Dec (r ≡ a) → exponentAt (withExponent (N .es) a value) r < 4
+      go r (yes t) = subst (λ k. exponentAt (withExponent (N .es) a value) k < 4) (sym t) (subst (λ k. k < 4) (sym written) low)
+      go r (no t) = subst (λ k. k < 4) (sym (exponent-other (N .es) a value r t)) (valid .small r)
 
   pub back-view : Backed n M (mulAt (mulInverse n) (rowsOf n M) a b) (mulBackIn n a b M)
-  unfolding N′
-  back-view = subst (Backed n M (mulAt (mulInverse n) (rowsOf n M) a b)) back-is (record { sound = sound-back; many = length-set (N .es) a value ∙ many; rows-are = rows-back })
+  unfolding mulBackIn turned N′ N value
+  back-view = record { sound = sound-back; many = many; rows-are = rows-back }
 
 -- ---- all of them
 

@@ -15,8 +15,8 @@ use Rattle.pauli.specs.Row.{Row, mulRow, bitRow}
 use Rattle.pauli.proofs.Bools.{not-so}
 use Rattle.encoding.specs.Limits.{maxRows, wordsOf}
 use Rattle.encoding.specs.Words.{odd, layRows}
-use Rattle.encoding.specs.Set.{Mem, mem, count, rowsOf, list, layIn, lay, Sound}
-use Rattle.encoding.specs.Refusals.{faultFrom, fault, least, setTests, tooLarge, leftOr}
+use Rattle.encoding.specs.Set.{Mem, memOf, count, layExponents, rowsOf, list, layIn, lay, Sound}
+use Rattle.encoding.specs.Refusals.{faultFrom, fault, setTests, leftOr}
 use Rattle.encoding.specs.Refusals as refusals
 use Rattle.encoding.proofs.Faults.{joined-fault, least-none, orElse, or-none}
 use Rattle.encoding.proofs.Memory.{Proper, count-lay, read-lay, lay-back, valid-of, valid-lay}
@@ -28,17 +28,17 @@ use Rattle.reduction.specs.Replay.{replay}
 use Rattle.reduction.specs.Log.{pairs, capacity}
 use Rattle.reduction.specs.Checker.{firstBad, verdict, verdictBy, working, workingBy}
 use Rattle.reduction.specs.Checker as checker
-use Rattle.reduction.specs.Demand.{Asked, Good}
+use Rattle.reduction.specs.Demand.{Asked}
 use Rattle.reduction.proofs.Log.{pairs-units, cut-logged, length-pairs}
 use Rattle.reduction.proofs.Lists.{all-mono, has→in, in-left, in-right}
 use Rattle.reduction.proofs.Entries.{bad-none, none-bad}
 use Rattle.reduction.proofs.Theorems.{log-replays, entries-good, cut-entries-good}
-use Rattle.terms.specs.Ranks.{byRank}
+use Rattle.encoding.specs.Ranks.{byRank}
 use Rattle.terms.specs.Refused.{repeated, listTests, reduceTests, columnTwice, reduceFault}
 use Rattle.terms.specs.Calls.{Reduces, ReducesAll, upTo}
 use Rattle.terms.specs.declared.Canonicalized.the-variants.{Done, Full}
 use Rattle.terms.proofs.Finished.{proper-set, proper-replay, none-refused, finished, full-when, full-leaves}
-use Rattle.terms.proofs.Ranks.{ranked}
+use Rattle.encoding.proofs.Ranks.{ranked}
 use Rattle.terms.proofs.Scans.{asked-of}
 use Rattle.terms.proofs.Whole.{whole-is}
 use Rattle.replay.specs.Check.{Task, Claim, checkTests, checkFault, oddLog, given, givenOr, verdictOn, workingFor, Checked}
@@ -59,9 +59,9 @@ list-same zero f g h = refl
 list-same (suc m) f g h = ap₂ (λ a l. a ∷ l) (h 0 (omega arith)) (list-same m (λ k. f (suc k)) (λ k. g (suc k)) (λ k l. h (suc k) (omega arith)))
 
 lay-same : (n m : ℕ) (σ τ : ℕ → Row) → ((k : ℕ) → k < m → σ k ≡ τ k) → lay n m σ ≡ lay n m τ
-unfolding layIn
+unfolding layIn layExponents
 lay-same n m σ τ h =
-    ap₂ (λ qs es. mem (layRows hasX (wordsOf n) qs) (layRows hasZ (wordsOf n) qs) es)
+    ap₂ (λ qs es. memOf m (layRows hasX (wordsOf n) qs) (layRows hasZ (wordsOf n) qs) es)
     (list-same m (λ k. σ k .ps) (λ k. τ k .ps) (λ k l. ap (λ (r : Row). r .ps) (h k l)))
     (list-same m (λ k. σ k .p) (λ k. τ k .p) (λ k l. ap (λ (r : Row). r .p) (h k l)))
 
@@ -86,7 +86,7 @@ module _ {n : ℕ} {M : Mem} (s : Sound n M) {τ : ℕ → Row} (P : Proper n (c
   many = ap count e ∙ count-lay n (wordsOf n) (count M) τ (s .valid .wide)
 
   reads : (k : ℕ) → k < count M → rowsOf n M′ k ≡ τ k
-  reads k h = ap (λ N. rowsOf n N k) e ∙ read-lay n (wordsOf n) (count M) τ (s .valid .wide) k h (P .long k h)
+  reads k h = ap (λ N. rowsOf n N k) e ∙ read-lay n (wordsOf n) (count M) τ (s .valid .wide) k h (P .long k h) (P .small k h)
 
   laid-sound : Sound n M′
   laid-sound =

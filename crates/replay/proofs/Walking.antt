@@ -1,34 +1,31 @@
 -- The call `undo`: its refusals are the lines of `undoLines`, and what is not refused is walked back whole, or not at all. Assumes nothing.
 use mathlib.Core.Path.{_≡_, refl, sym, ap, _∙_}
-use mathlib.Core.Bool.{cond, not}
+use mathlib.Core.Bool.{not}
 use mathlib.Core.List.{List, [], _∷_}
-use mathlib.Core.Option.{Option, none, some}
-use Prim.Native.Nat.{ℕ, zero, suc, _+_, _/_, _≤_, _<_}
+use Prim.Native.Nat.{ℕ, zero, suc, _/_, _≤_, _<_}
 use lib.Dec.{eqb}
 use lib.ListN.{length}
-use Rattle.pauli.specs.Row.{Row}
 use Rattle.encoding.specs.Limits.{wordsOf}
-use Rattle.encoding.specs.Set.{Mem, count, rowsOf, lay}
+use Rattle.encoding.specs.Set.{Mem, memOf, mem, count, rowsOf, lay}
 use Rattle.encoding.specs.Refusals.{fault, leftOr}
 use Rattle.encoding.proofs.Faults.{orElse, or-none, kept}
 use Rattle.encoding.proofs.Memory.{lay-back}
-use Rattle.reduction.specs.Lists.{All, distinct}
-use Rattle.reduction.specs.Rule.{Entry}
+use Rattle.reduction.specs.Lists.{distinct}
 use Rattle.reduction.specs.Log.{pairs}
 use Rattle.reduction.specs.Checker.{firstBad}
 use Rattle.reduction.proofs.Entries.{bad-none}
-use Rattle.terms.specs.Ranks.{line, byRank}
+use Rattle.encoding.specs.Ranks.{line, byRank}
 use Rattle.terms.specs.Refused.{reduceTests, columnTwice, reduceFault, Reducible}
-use Rattle.terms.proofs.Ranks.{ranked, or-zero}
+use Rattle.encoding.proofs.Ranks.{ranked, or-zero}
 use Rattle.replay.specs.Check.{oddLog}
 use Rattle.replay.specs.Steps.{placeOf}
-use Rattle.replay.specs.Undo.{undo, undoFault, undoneBy, undoneOr, backBy, backFor, Undoes}
+use Rattle.replay.specs.Undo.{undoFault, undoneBy, undoneOr, backBy, backFor, Undoes}
 use Rattle.replay.specs.Workers.{takenBack, Walked}
 use Rattle.replay.specs.declared.Undone.{Undone}
 use Rattle.replay.specs.declared.Undone.the-variants.{BadEntry, Done, Refused}
 use Rattle.replay.proofs.Faults.{first-of}
 use Rattle.replay.proofs.Log.{place-in, place-out}
-use Rattle.replay.proofs.Back.{Apart, apart}
+use Rattle.replay.proofs.Back.{apart}
 use Rattle.replay.proofs.TakenBack.{taken-laid}
 
 -- ---- the worker: the first bad entry at place b, or none
@@ -55,6 +52,10 @@ module _ (n : ℕ) (listed extra log : List ℕ) {M : Mem} (s : Reducible n [] l
       }
 
 -- ---- the call
+
+-- as it is lent: phases have kept their length
+pub walked-lent : {n : ℕ} {listed extra log : List ℕ} {M : Mem} {m : ℕ} {xs zs es : List ℕ} {r : Undone} → length es ≡ m → Walked n listed extra log M (memOf m xs zs es) r → Walked n listed extra log M (mem xs zs es) r
+walked-lent {xs = xs} {zs = zs} {es = es} e w = record { answer = w .answer; rows = ap (λ (k : ℕ). memOf k xs zs es) e ∙ w .rows }
 
 module _ (n : ℕ) (listed extra log : List ℕ) (M : Mem) {f g : ℕ} (pf : f ≡ reduceFault n M [] listed extra) (pg : g ≡ byRank (line f (not (eqb f 0)) ∷ oddLog (length log) ∷ [])) where
   -- an order of no columns never draws 15

@@ -1,7 +1,6 @@
 -- RULES 7.9 to 7.12, "Walking a log back": entries are taken last to first, the target multiplied by the source's inverse, so the source's exponent is taken
 -- negated. The refusals of the call, its answer, and the rows at its end. Assumes nothing.
 use mathlib.Core.Path.{_≡_}
-use mathlib.Core.Bool.{Bool}
 use mathlib.Core.List.{List, [], _∷_, _++_}
 use mathlib.Core.Option.{Option, none, some}
 use Prim.Native.Nat.{ℕ, zero, suc, _-_, _%_}
@@ -12,7 +11,7 @@ use Rattle.encoding.specs.Refusals.{leftOr}
 use Rattle.reduction.specs.Rule.{Entry, mulAt}
 use Rattle.reduction.specs.Log.{pairs}
 use Rattle.reduction.specs.Checker.{firstBad}
-use Rattle.terms.specs.Ranks.{TableLine, byRank, numbered}
+use Rattle.encoding.specs.Ranks.{TableLine, byRank, numbered}
 use Rattle.terms.specs.Refused.{reduceTests}
 use Rattle.replay.specs.Check.{oddLog}
 use Rattle.replay.specs.declared.Undone.{Undone}

@@ -1,11 +1,8 @@
 -- What the inner functions of `undo` leave in memory. No definition here is one to be believed: `Undoes` speaks of rows alone. Assumes nothing.
 use mathlib.Core.Path.{_≡_}
-use mathlib.Core.Bool.{cond, _&&_}
 use mathlib.Core.List.{List, [], _∷_}
 use Prim.Native.Nat.{ℕ, _+_, _%_}
-use lib.Dec.{ltb}
-use lib.ListN.{length, getD, set}
-use Rattle.encoding.specs.Set.{Mem, mem}
+use Rattle.encoding.specs.Set.{Mem, memOf, exponentAt, withExponent}
 use Rattle.reduction.specs.Rule.{Entry}
 use Rattle.reduction.specs.Log.{pairs}
 use Rattle.reduction.specs.Checker.{firstBad}
@@ -13,13 +10,13 @@ use Rattle.terms.specs.Leaves.{mulIn}
 use Rattle.replay.specs.Undo.{undoneBy, backFor}
 use Rattle.replay.specs.declared.Undone.{Undone}
 
--- the phase byte of row a has got twice that of row b; where not both are there, nothing is done
+-- the exponent of row a has got twice that of row b
 unfoldable pub turned : ℕ → ℕ → List ℕ → List ℕ
-turned a b es = cond (ltb a (length es) && ltb b (length es)) (set es a ((getD es a 0 + getD es b 0 + getD es b 0) % 4)) es
+turned a b es = withExponent es a ((exponentAt es a + exponentAt es b + exponentAt es b) % 4)
 
 -- row a multiplied by row b, and then so: by the inverse of row b
 unfoldable pub mulBackIn : ℕ → ℕ → ℕ → Mem → Mem
-mulBackIn n a b M = let N = mulIn n a b M in mem (N .xs) (N .zs) (turned a b (N .es))
+mulBackIn n a b M = let N = mulIn n a b M in memOf (N .m) (N .xs) (N .zs) (turned a b (N .es))
 
 -- the entries taken back, the last one first
 unfoldable pub takenBack : ℕ → List Entry → Mem → Mem

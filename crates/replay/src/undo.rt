@@ -1,7 +1,7 @@
 // Walking a log back: the entries are tested as the checker tests them, and then taken back, the last one first.
 ghost use mathlib.Core.Path.{_≡_};
 ghost use mathlib.Core.List.{[]};
-ghost use Rattle.encoding.specs.Set.{mem};
+ghost use Rattle.encoding.specs.Lent.{before, after, lentOf, beforeOf, afterOf};
 ghost use Rattle.reduction.specs.Log.{pairs};
 ghost use Rattle.terms.specs.Refused.{Reducible};
 ghost use Rattle.replay.specs.Undo.{Undoes};
@@ -14,38 +14,36 @@ use products::add_signs;
 use terms::reduce_fault;
 use terms::rows::imul_unchecked;
 
-// The phase byte of row a gets twice that of row b: what lies between the product by row b and that by its inverse.
-fn turn(phases: &mut [u8], a: usize, b: usize)
-    ensures { λ _. ⌜ now (phases .exit) ≡ turned a b (now (phases .entry)) ⌝ }
+// The exponent of row a gets twice that of row b: what lies between the product by row b and that by its inverse.
+fn turn(phases: &mut [u8], a: RowNumber, b: RowNumber)
+    ensures { λ _. ⌜ now (phases .exit) ≡ turned (a .0) (b .0) (now (phases .entry)) ⌝ }
 {
-    if a < phases.len() {
-        if b < phases.len() {
-            let e = phases[b];
-            phases[a] = add_signs(phases[a], e, e);
-        }
-    }
+    let l = encoding::get_exponent(phases, a);
+    let e = encoding::get_exponent(phases, b);
+    encoding::set_exponent(phases, a, add_signs(l, e, e));
 }
 
 // Row a is multiplied by the inverse of row b.
 fn imul_inverse(
     n: usize,
+    m: usize,
     x: &mut [u64],
     z: &mut [u64],
     phases: &mut [u8],
     a: RowNumber,
     b: RowNumber,
 )
-    ensures { λ _. ⌜ mem (now (x .exit)) (now (z .exit)) (now (phases .exit))
-        ≡ mulBackIn n (a .0) (b .0) (mem (now (x .entry)) (now (z .entry)) (now (phases .entry))) ⌝ }
+    ensures { λ _. ⌜ afterOf m x z phases
+        ≡ mulBackIn n (a .0) (b .0) (beforeOf m x z phases) ⌝ }
 {
-    imul_unchecked(n, x, z, phases, a, b);
-    turn(phases, a.0, b.0);
+    imul_unchecked(n, m, x, z, phases, a, b);
+    turn(phases, a, b);
 }
 
 // All entries are taken back, the last one first.
-fn take_back(n: usize, x: &mut [u64], z: &mut [u64], phases: &mut [u8], log: &[u16])
-    ensures { λ _. ⌜ mem (now (x .exit)) (now (z .exit)) (now (phases .exit))
-        ≡ takenBack n (pairs (now (log .entry))) (mem (now (x .entry)) (now (z .entry)) (now (phases .entry))) ⌝ }
+fn take_back(n: usize, m: usize, x: &mut [u64], z: &mut [u64], phases: &mut [u8], log: &[u16])
+    ensures { λ _. ⌜ afterOf m x z phases
+        ≡ takenBack n (pairs (now (log .entry))) (beforeOf m x z phases) ⌝ }
 {
     let h = log.len() / 2;
     let mut i = 0;
@@ -54,7 +52,7 @@ fn take_back(n: usize, x: &mut [u64], z: &mut [u64], phases: &mut [u8], log: &[u
         let j = k + k;
         let a = RowNumber(log[j] as usize);
         let b = RowNumber(log[j + 1] as usize);
-        imul_inverse(n, x, z, phases, a, b);
+        imul_inverse(n, m, x, z, phases, a, b);
         i += 1;
     }
 }
@@ -62,6 +60,7 @@ fn take_back(n: usize, x: &mut [u64], z: &mut [u64], phases: &mut [u8], log: &[u
 // What nothing refuses: all entries are tested, then all are taken back.
 fn walk_back(
     n: usize,
+    m: usize,
     x: &mut [u64],
     z: &mut [u64],
     phases: &mut [u8],
@@ -69,15 +68,15 @@ fn walk_back(
     extra: &[u16],
     log: &[u16],
 ) -> Undone
-    requires { ⌜ Reducible n [] (now listed) (now extra) (mem (now x) (now z) (now phases)) ⌝ }
+    requires { ⌜ Reducible n [] (now listed) (now extra) (lentOf m x z phases) ⌝ }
     ensures { λ r. ⌜ Walked n (now (listed .entry)) (now (extra .entry)) (now (log .entry))
-        (mem (now (x .entry)) (now (z .entry)) (now (phases .entry))) (mem (now (x .exit)) (now (z .exit)) (now (phases .exit))) r ⌝ }
+        (beforeOf m x z phases) (afterOf m x z phases) r ⌝ }
 {
     let b = first_bad(log, listed, extra);
     if b < log.len() / 2 {
         return Undone::BadEntry(b);
     }
-    take_back(n, x, z, phases, log);
+    take_back(n, m, x, z, phases, log);
     Undone::Done
 }
 
@@ -92,12 +91,12 @@ pub fn undo(
     log: &[u16],
 ) -> Undone
     ensures { λ r. ⌜ Undoes n (now (listed .entry)) (now (extra .entry)) (now (log .entry))
-        (mem (now (x .entry)) (now (z .entry)) (now (phases .entry))) (mem (now (x .exit)) (now (z .exit)) (now (phases .exit))) r ⌝ }
+        (before x z phases) (after x z phases) r ⌝ }
 {
     let f = reduce_fault(n, x, z, phases, &log[0..0], listed, extra);
     let g = log_fault(f, log.len());
     if g != 0 {
         return Undone::Refused(g);
     }
-    walk_back(n, x, z, phases, listed, extra, log)
+    walk_back(n, phases.len(), x, z, phases, listed, extra, log)
 }

@@ -2,10 +2,10 @@
 -- entry right before them. Assumes nothing.
 use borrow.Author.Needs.{needs}
 use native.Mathlib.Omega.{arith}
-use mathlib.Core.Path.{_≡_, refl, sym, ap, _∙_}
-use Prim.Native.Nat.{ℕ, _+_, _*_, _-_, _/_, _<_, _≤_}
-use lib.ListN.{length, getD, drop, take, length-set}
-use Rattle.encoding.specs.Set.{Mem, mem}
+use mathlib.Core.Path.{_≡_, refl, ap, _∙_}
+use Prim.Native.Nat.{ℕ, _+_, _-_, _/_, _≤_}
+use lib.ListN.{length, drop}
+use Rattle.encoding.specs.Set.{Mem, memOf}
 use Rattle.reduction.specs.Log.{pairs}
 use Rattle.replay.specs.Workers.{takenBack}
 use Rattle.replay.proofs.TakenBack.{taken-none, taken-more}
@@ -13,27 +13,27 @@ use Rattle.replay.proofs.undo.take_back.Statement.{statement}
 use Rattle.replay.proofs.undo.take_back.Tie as tie
 
 abbrev Inv-loop : tie.InvT-loop
-Inv-loop n x₀ z₀ phases₀ log h i₀ x z phases i =
-    (i ≤ h) × ((length x ≡ length x₀) × (length z ≡ length z₀) × (length phases ≡ length phases₀)) × (mem x z phases ≡ takenBack n (drop (h - i) (pairs log)) (mem x₀ z₀ phases₀))
+Inv-loop n m x₀ z₀ phases₀ log h i₀ x z phases i =
+    (i ≤ h) × ((length x ≡ length x₀) × (length z ≡ length z₀) × (length phases ≡ length phases₀)) × (memOf m x z phases ≡ takenBack n (drop (h - i) (pairs log)) (memOf m x₀ z₀ phases₀))
 
 abbrev μ-loop : tie.MeasureT-loop
-μ-loop n x₀ z₀ phases₀ log h i₀ x z phases i = h - i
+μ-loop n m x₀ z₀ phases₀ log h i₀ x z phases i = h - i
 
 loop-holds : tie.Need-loop-holds Inv-loop μ-loop
 loop-holds c =
     let a = c .before .before .before .before .args in
     let h = length (a .log .now) / 2 in
-    let M₀ = mem (a .x .now) (a .z .now) (a .phases .now) in
+    let M₀ = memOf (a .m) (a .x .now) (a .z .now) (a .phases .now) in
     let all : h ≡ h - 0 = omega arith in
     (omega arith, (refl, refl, refl), taken-none (a .n) (a .log .now) M₀ ∙ ap (λ (j : ℕ). takenBack (a .n) (drop j (pairs (a .log .now))) M₀) all)
 
-cast-t17 : tie.Need-cast-t17 Inv-loop μ-loop
-cast-t17 c =
+cast-t18 : tie.Need-cast-t18 Inv-loop μ-loop
+cast-t18 c =
     let k = length (c .before .before .before .before .before .before .before .args .log .now) / 2 - c .before .before .loop .i - 1 in
     omega (arith, c .shared-slice-known2 .given (k + k))
 
-cast-t19 : tie.Need-cast-t19 Inv-loop μ-loop
-cast-t19 c =
+cast-t20 : tie.Need-cast-t20 Inv-loop μ-loop
+cast-t20 c =
     let k = length (c .before .before .before .before .before .before .before .before .args .log .now) / 2 - c .before .before .before .loop .i - 1 in
     omega (arith, c .shared-slice-known3 .given (k + k + 1))
 
@@ -47,14 +47,14 @@ loop-again c =
     let more = c .before .before .before .before .before .before .before .before .before .before .before .before .loop-test .taken in
     let d = c .before .before .before .before .before .before .imul-inverse in
     let kept = d .kept in
-    let M₀ = mem (a .x .now) (a .z .now) (a .phases .now) in
+    let M₀ = memOf (a .m) (a .x .now) (a .z .now) (a .phases .now) in
     let h = length (a .log .now) / 2 in
     let k = h - l .i - 1 in
     let before : h - l .i ≡ k + 1 = omega (arith, more) in
     let after : k ≡ h - (l .i + 1) = omega (arith, more) in
     let from : ℕ → Mem = λ j. takenBack (a .n) (drop j (pairs (a .log .now))) M₀ in (
       omega (arith, more),
-      (kept .1 .0 ∙ l .inv .1 .0, kept .1 .1 .0 ∙ l .inv .1 .1, kept .1 .1 .1 .0 ∙ l .inv .1 .2),
+      (kept .1 .1 .0 ∙ l .inv .1 .0, kept .1 .1 .1 .0 ∙ l .inv .1 .1, kept .1 .1 .1 .1 .0 ∙ l .inv .1 .2),
       taken-more (a .n) (a .log .now) M₀ k (omega (arith, more)) (l .inv .2 ∙ ap from before) (d .ensures) ∙ ap from after,
     )
 
@@ -72,7 +72,7 @@ returns c =
     let a = c .before .before .before .before .before .before .args in
     let l = c .before .loop in
     let done : length (a .log .now) / 2 - l .i ≡ 0 = omega arith in
-    l .inv .2 ∙ ap (λ (j : ℕ). takenBack (a .n) (drop j (pairs (a .log .now))) (mem (a .x .now) (a .z .now) (a .phases .now))) done
+    l .inv .2 ∙ ap (λ (j : ℕ). takenBack (a .n) (drop j (pairs (a .log .now))) (memOf (a .m) (a .x .now) (a .z .now) (a .phases .now))) done
 
 pub take-back-spec : {M : Type 1} → statement M
 take-back-spec =
@@ -86,11 +86,11 @@ take-back-spec =
     (λ c. search needs)
     (λ c. search needs)
     (λ c. search needs)
-    cast-t17
+    cast-t18
     (λ c. search needs)
     (λ c. search needs)
     (λ c. search needs)
-    cast-t19
+    cast-t20
     imul-inverse-requires
     (λ c. search needs)
     (λ c. search needs)

@@ -1,7 +1,7 @@
 -- `replay::undo::undo` meets its contract. Assumes nothing.
 use borrow.Author.Needs.{needs}
 use Rattle.encoding.specs.Set.{mem}
-use Rattle.replay.proofs.Walking.{undo-passed, undo-refusing, undo-walking}
+use Rattle.replay.proofs.Walking.{undo-passed, undo-refusing, walked-lent, undo-walking}
 use Rattle.replay.proofs.undo.undo.Statement.{statement}
 use Rattle.replay.proofs.undo.undo.Tie as tie
 
@@ -21,7 +21,8 @@ returns-2 : tie.Need-returns-2
 returns-2 c =
     let a = c .before .before .before .before .before .before .before .before .before .before .before .before .before .before .before .before .before .before .before .before .before .before .before .args in
     let e = c .before .before .before .before .before .before .before .before .before .before in
-    undo-walking (a .n) (a .listed .now) (a .extra .now) (a .log .now) (mem (a .x .now) (a .z .now) (a .phases .now)) (e .before .before .reduce-fault .ensures .0) (e .before .log-fault .ensures) (e .if1 .left) (c .before .before .before .before .before .before .walk-back .ensures)
+    let w = c .before .before .before .before .before .before .walk-back in
+    undo-walking (a .n) (a .listed .now) (a .extra .now) (a .log .now) (mem (a .x .now) (a .z .now) (a .phases .now)) (e .before .before .reduce-fault .ensures .0) (e .before .log-fault .ensures) (e .if1 .left) (walked-lent (w .kept .1 .1 .1 .1 .0) (w .ensures))
 
 pub undo-spec : {M : Type 1} → statement M
 undo-spec =

@@ -1,5 +1,4 @@
 -- `replay::undo::walk_back` meets its contract. Assumes nothing.
-use native.Mathlib.Omega.{arith}
 use borrow.Author.Needs.{needs}
 use Rattle.replay.proofs.Judging.{few}
 use Rattle.replay.proofs.Walking.{walk-bad, walk-done}
