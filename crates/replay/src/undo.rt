@@ -1,6 +1,7 @@
 // Walking a log back: the entries are tested as the checker tests them, and then taken back, the last one first.
 ghost use mathlib.Core.Path.{_≡_};
 ghost use mathlib.Core.List.{[]};
+ghost use Prim.Native.Nat.{_+_, _<_};
 ghost use Rattle.encoding.specs.Lent.{before, after, lentOf, beforeOf, afterOf};
 ghost use Rattle.reduction.specs.Log.{pairs};
 ghost use Rattle.terms.specs.Refused.{Reducible};
@@ -40,6 +41,14 @@ fn imul_inverse(
     turn(phases, a, b);
 }
 
+// The entry to be taken back when i of h entries are: the last one of the others.
+fn next_back(h: usize, i: usize) -> usize
+    requires { ⌜ i < h ⌝ }
+    ensures { λ k. ⌜ k + 1 + i ≡ h ⌝ }
+{
+    h - i - 1
+}
+
 // All entries are taken back, the last one first.
 fn take_back(n: usize, m: usize, x: &mut [u64], z: &mut [u64], phases: &mut [u8], log: &[u16])
     ensures { λ _. ⌜ afterOf m x z phases
@@ -48,7 +57,7 @@ fn take_back(n: usize, m: usize, x: &mut [u64], z: &mut [u64], phases: &mut [u8]
     let h = log.len() / 2;
     let mut i = 0;
     while i < h {
-        let k = h - i - 1;
+        let k = next_back(h, i);
         let j = k + k;
         let a = RowNumber(log[j] as usize);
         let b = RowNumber(log[j + 1] as usize);

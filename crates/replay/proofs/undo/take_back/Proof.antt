@@ -28,34 +28,31 @@ loop-holds c =
     (omega arith, (refl, refl, refl), taken-none (a .n) (a .log .now) M₀ ∙ ap (λ (j : ℕ). takenBack (a .n) (drop j (pairs (a .log .now))) M₀) all)
 
 cast-t18 : tie.Need-cast-t18 Inv-loop μ-loop
-cast-t18 c =
-    let k = length (c .before .before .before .before .before .before .before .args .log .now) / 2 - c .before .before .loop .i - 1 in
-    omega (arith, c .shared-slice-known2 .given (k + k))
+cast-t18 c = let k = c .before .next-back .result in omega (arith, c .shared-slice-known2 .given (k + k))
 
 cast-t20 : tie.Need-cast-t20 Inv-loop μ-loop
-cast-t20 c =
-    let k = length (c .before .before .before .before .before .before .before .before .args .log .now) / 2 - c .before .before .before .loop .i - 1 in
-    omega (arith, c .shared-slice-known3 .given (k + k + 1))
+cast-t20 c = let k = c .before .before .next-back .result in omega (arith, c .shared-slice-known3 .given (k + k + 1))
 
 imul-inverse-requires : tie.Need-imul-inverse-requires Inv-loop μ-loop
 imul-inverse-requires c κs = tt
 
 loop-again : tie.Need-loop-again Inv-loop μ-loop
 loop-again c =
-    let a = c .before .before .before .before .before .before .before .before .before .before .before .before .before .before .before .before .before .before .args in
-    let l = c .before .before .before .before .before .before .before .before .before .before .before .before .before .loop in
-    let more = c .before .before .before .before .before .before .before .before .before .before .before .before .loop-test .taken in
+    let a = c .before .before .before .before .before .before .before .before .before .before .before .before .before .before .before .before .before .before .before .args in
+    let l = c .before .before .before .before .before .before .before .before .before .before .before .before .before .before .loop in
+    let more = c .before .before .before .before .before .before .before .before .before .before .before .before .before .loop-test .taken in
+    let b = c .before .before .before .before .before .before .before .before .before .before .before .before .next-back in
     let d = c .before .before .before .before .before .before .imul-inverse in
     let kept = d .kept in
     let M₀ = memOf (a .m) (a .x .now) (a .z .now) (a .phases .now) in
     let h = length (a .log .now) / 2 in
-    let k = h - l .i - 1 in
-    let before : h - l .i ≡ k + 1 = omega (arith, more) in
-    let after : k ≡ h - (l .i + 1) = omega (arith, more) in
+    let k = b .result in
+    let before : h - l .i ≡ k + 1 = omega (arith, b .ensures) in
+    let after : k ≡ h - (l .i + 1) = omega (arith, b .ensures) in
     let from : ℕ → Mem = λ j. takenBack (a .n) (drop j (pairs (a .log .now))) M₀ in (
       omega (arith, more),
       (kept .1 .1 .0 ∙ l .inv .1 .0, kept .1 .1 .1 .0 ∙ l .inv .1 .1, kept .1 .1 .1 .1 .0 ∙ l .inv .1 .2),
-      taken-more (a .n) (a .log .now) M₀ k (omega (arith, more)) (l .inv .2 ∙ ap from before) (d .ensures) ∙ ap from after,
+      taken-more (a .n) (a .log .now) M₀ k (omega (arith, b .ensures)) (l .inv .2 ∙ ap from before) (d .ensures) ∙ ap from after,
     )
 
 same-length : tie.Need-same-length Inv-loop μ-loop
@@ -81,8 +78,7 @@ take-back-spec =
     Inv-loop
     μ-loop
     loop-holds
-    (λ c. search needs)
-    (λ c. search needs)
+    (λ c κs. search needs)
     (λ c. search needs)
     (λ c. search needs)
     (λ c. search needs)
