@@ -1,9 +1,9 @@
 //! The cases of a run: all small ones, every refusal alone and in pairs, the edges of the form, whole numbers in both
-//! editions, phases by both engines, and then as many random ones as asked for.
+//! editions, phases by both engines, logs walked back, and then as many random ones as asked for.
 
 use crate::random::Random;
 use crate::small::{self, spoiled, Sink};
-use crate::{engines, forms, malformed, valid, whole};
+use crate::{engines, forms, malformed, undoing, valid, whole};
 
 pub fn all(seed: u64, count: u64, sink: Sink) {
     small::all(sink);
@@ -11,6 +11,7 @@ pub fn all(seed: u64, count: u64, sink: Sink) {
     forms::longest(sink);
     whole::all(seed, count / 10, sink);
     engines::all(seed, count / 10, sink);
+    undoing::all(seed, count / 10, sink);
     for i in 0..count {
         sink(random_line(&mut Random::of(seed, i)));
     }

@@ -163,7 +163,7 @@ fn kind_of(answer: &str) -> String {
     let words: Vec<&str> = answer.split(' ').collect();
     match words[..] {
         ["refuse", number, ..] => format!("refuse {number}"),
-        ["ok", verdict @ ("bad" | "differs" | "notreduced" | "yes"), ..] => format!("ok {verdict}"),
+        ["ok", verdict @ ("bad" | "differs" | "notreduced" | "yes" | "done"), ..] => format!("ok {verdict}"),
         _ => {
             if answer == "bad line" {
                 answer.to_string()

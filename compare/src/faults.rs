@@ -98,6 +98,7 @@ fn own(call: &str) -> &'static [(u8, Fault)] {
             REDUCE
         }
         "reduceall" => &[(8, log_short)],
+        "undo" => &[(6, listed_too_large), (6, extra_too_large), (7, listed_twice), (9, odd_longer), (9, odd_shorter)],
         _ => &[
             (6, column_too_large),
             (6, listed_too_large),
@@ -519,18 +520,32 @@ fn column_too_large(case: &mut Case, random: &mut Random) -> bool {
     into_list(case, 4, 2 * n + by, random)
 }
 
+/// The field of the listed rows; the extra rows are the next one. `undo` has no order before them.
+fn listed_at(case: &Case) -> usize {
+    if case.call == "undo" {
+        4
+    } else {
+        5
+    }
+}
+
+fn log_of(case: &mut Case) -> &mut Vec<u16> {
+    let at = listed_at(case) + 2;
+    shorts(case, at)
+}
+
 fn listed_too_large(case: &mut Case, random: &mut Random) -> bool {
     let m = bytes(case, 3).len();
-    into_list(case, 5, m, random)
+    into_list(case, listed_at(case), m, random)
 }
 
 fn extra_too_large(case: &mut Case, random: &mut Random) -> bool {
     let m = bytes(case, 3).len();
-    into_list(case, 6, m, random)
+    into_list(case, listed_at(case) + 1, m, random)
 }
 
 fn listed_twice(case: &mut Case, random: &mut Random) -> bool {
-    twice(case, 5, random)
+    twice(case, listed_at(case), random)
 }
 
 fn column_twice(case: &mut Case, random: &mut Random) -> bool {
@@ -585,12 +600,14 @@ fn needed(case: &Case, n: usize, set: &Set) -> usize {
 }
 
 fn odd_longer(case: &mut Case, _: &mut Random) -> bool {
-    shorts(case, 7).push(0);
-    shorts(case, 7).len() % 2 == 1
+    let log = log_of(case);
+    log.push(0);
+    log.len() % 2 == 1
 }
 
 fn odd_shorter(case: &mut Case, _: &mut Random) -> bool {
-    shorts(case, 7).pop().is_some() && shorts(case, 7).len() % 2 == 1
+    let log = log_of(case);
+    log.pop().is_some() && log.len() % 2 == 1
 }
 
 // ---- 10 to 12

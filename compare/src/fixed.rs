@@ -7,7 +7,7 @@ use crate::model;
 use crate::random::Random;
 use crate::rows::{packed, words_for, Pauli, Row, Set};
 use crate::small::{over_sets, plain_terms, singles_and_pairs};
-use crate::{engines, forms, malformed, valid};
+use crate::{engines, forms, malformed, undoing, valid};
 
 /// Writes the list and its answers; the number of cases where Rust and model differ, and of the Rust's faults.
 pub fn write(oracle: Option<Vec<String>>, cases: &str, answers: &str) -> usize {
@@ -51,6 +51,7 @@ fn list() -> Vec<String> {
     whole_numbers(&mut out);
     signed_pairs(&mut out);
     engines(&mut out);
+    walked_back(&mut out);
     edges_of_the_form(&mut out);
     out
 }
@@ -622,6 +623,53 @@ fn engines(out: &mut Vec<String>) {
         for (a, b) in pairs.into_iter().take(if n > 100 { 1 } else { 4 }) {
             out.push(with_numbers("phase", n, &set, &[a, b]));
             out.push(with_numbers("phaset", n, &set, &[a, b]));
+        }
+    }
+}
+
+/// P9's and P10's rows walked back to their start, from there again, and damaged logs; random ones.
+fn walked_back(out: &mut Vec<String>) {
+    let rows = |rows: &str, log: &[u16]| format!("undo 2 {rows} 0,1,2 - {}", joined(log));
+    group(
+        out,
+        "walking back P9 and P10; from the starting rows; an empty log; no rows, no qubits",
+        &[
+            &rows(CLAIM, &LOG),
+            &rows("1,2,0 0,1,1 1,3,0", &LOG[..12]),
+            &rows("0,3,1 1,0,1 0,0,0", &LOG),
+            &rows(CLAIM, &[]),
+            "undo 2 - - - - - -",
+            "undo 0 - - 1,2,3 0,1 2 2,1,0,1",
+            "undo 1 1,0 0,1 3,1 0 1 1,0",
+            "undo 1 1,0 0,1 3,1 0 1,1 0,1",
+            "undo 2 1,2,0 0,0,1 1,3,0 0,1,2 - 0:1,1:0,2:0,1:2,0:1,2:1,1:2",
+        ],
+    );
+    out.push("# each unit of the log changed".to_string());
+    for at in 0..LOG.len() {
+        for to in [0, 1, 2, 3, 65535] {
+            let mut log = LOG;
+            log[at] = to;
+            out.push(rows(CLAIM, &log));
+        }
+    }
+    group(
+        out,
+        "an odd log; numbers too large; a listed row twice, with a log of odd length and with 4 and 5",
+        &[
+            &rows(CLAIM, &LOG[..13]),
+            "undo 2 1,2,0 0,0,1 1,3,0 0,3 - 0,1",
+            "undo 2 1,2,0 0,0,1 1,3,0 0,1 3 0,1",
+            "undo 2 1,2,0 0,0,1 1,3,0 0,0 - 0",
+            "undo 2 1,2,0 0,0,1 1,3,4 0,0 - 0",
+            "undo 2 1,2,4 0,0,1 1,3,0 0,0 - 0",
+        ],
+    );
+    let mut random = Random::of(6, 0);
+    for _ in 0..40 {
+        let case = undoing::left_by_reduction(&mut random);
+        if case.line().len() < 4000 {
+            out.push(case.line());
         }
     }
 }

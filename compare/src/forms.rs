@@ -9,7 +9,7 @@ use crate::small::Sink;
 use crate::valid::call_on;
 
 /// A sound line of each call, with something in every list.
-const LINES: [&str; 18] = [
+const LINES: [&str; 19] = [
     "phase1 1 0 1 1",
     "act1 1 1 1",
     "get 1 1,0 0,1 0,3 1 0",
@@ -26,6 +26,7 @@ const LINES: [&str; 18] = [
     "reduce 1 1,1 0,1 0,3 0,1 0 1 8",
     "reduceall 1 1,1 0,1 0,3 8",
     "check 1 1,1 0,1 0,3 0,1 0 1 1,0 1,0 0,1 0,1",
+    "undo 1 1,1 0,1 0,3 0 1 1,0",
     "elemf 1 0,1 1,1 3ff0000000000000,4000000000000000 0,3ff0000000000000 1 1",
     "elemi 1 0,1 1,1 -3,2 5,-7 1 1",
 ];
@@ -37,7 +38,7 @@ pub fn all(sink: Sink) {
         sink(zeros(line, most + 1));
     }
     for entries in [LINE_LOG / 2, LINE_LOG / 2 + 1] {
-        sink(log(&joined(&vec!["0:0"; entries])));
+        with_log(&joined(&vec!["0:0"; entries]), sink);
     }
 }
 
@@ -63,8 +64,10 @@ fn short(sink: Sink) {
     logs(sink);
 }
 
-fn log(text: &str) -> String {
-    format!("check 1 1,1 0,1 0,3 0,1 0 1 {text} 1,0 0,1 0,2")
+/// The two calls that are given a log.
+fn with_log(text: &str, sink: Sink) {
+    sink(format!("check 1 1,1 0,1 0,3 0,1 0 1 {text} 1,0 0,1 0,2"));
+    sink(format!("undo 1 1,1 0,1 0,3 0 1 {text}"));
 }
 
 /// Logs as `reduce` prints them and flat, and what is neither.
@@ -74,10 +77,10 @@ fn logs(sink: Sink) {
         "1", "1:", ":0", ":", "1:0:1", "1:0:1:0", "1:0,", ",1:0", "1:0,,1:0", "1:0,1,0", "1,0,1:0", "1:0,1", "1,1:0",
         "1:0,-", "-,1:0", "-:-", "-1:0", "1:-0", "1:+0", "1;0", "1:0;1:0", "1::0", "65536:0", "1:65536", "1:a", "1.0",
     ];
-    of_the_form.iter().chain(&not).for_each(|text| sink(log(text)));
+    of_the_form.iter().chain(&not).for_each(|text| with_log(text, sink));
     for digits in [16, 17, 20, 21] {
-        sink(log(&format!("{:0>digits$}:0", 1)));
-        sink(log(&format!("1:{:0>digits$}", 0)));
+        with_log(&format!("{:0>digits$}:0", 1), sink);
+        with_log(&format!("1:{:0>digits$}", 0), sink);
     }
 }
 
@@ -179,7 +182,7 @@ fn lengths(sink: Sink) {
 }
 
 /// Each list by itself, as long as a line may have it and one item longer; `@` is where it stands.
-const LISTS: [(usize, &str); 23] = [
+const LISTS: [(usize, &str); 26] = [
     (LINE_WORDS, "count 1 @ - - 0"),
     (LINE_WORDS, "count 1 - @ - 0"),
     (LINE_ROWS, "count 0 - - @ 0"),
@@ -194,6 +197,9 @@ const LISTS: [(usize, &str); 23] = [
     (LINE_LIST, "check 1 1 1 0 - @ - - 1 1 0"),
     (LINE_LIST, "check 1 1 1 0 - - @ - 1 1 0"),
     (LINE_LOG, "check 1 1 1 0 - - - @ 1 1 0"),
+    (LINE_LIST, "undo 1 1 1 0 @ - -"),
+    (LINE_LIST, "undo 1 1 1 0 - @ -"),
+    (LINE_LOG, "undo 1 1 1 0 - - @"),
     (LINE_WORDS, "check 1 - - - - - - - @ - -"),
     (LINE_WORDS, "check 1 - - - - - - - - @ -"),
     (LINE_ROWS, "check 0 - - - - - - - - - @"),

@@ -18,7 +18,7 @@ pub enum Field {
 
 /// Each call with the kinds of its fields: n number, w word, W words of rows, B bytes, S list of u16, G log, V words of
 /// terms, I list of i32, L letter; lent lengths: o words of a matrix, T four of a set to be written, u units of a log.
-pub const CALLS: [(&str, &str); 18] = [
+pub const CALLS: [(&str, &str); 19] = [
     ("phase1", "wwww"),
     ("act1", "www"),
     ("get", "nWWBnn"),
@@ -35,6 +35,7 @@ pub const CALLS: [(&str, &str); 18] = [
     ("reduce", "nWWBSSSu"),
     ("reduceall", "nWWBu"),
     ("check", "nWWBSSSGWWB"),
+    ("undo", "nWWBSSG"),
     ("elemf", "nVVVVww"),
     ("elemi", "nVVIIww"),
 ];

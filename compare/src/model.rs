@@ -3,7 +3,7 @@
 
 use crate::limits::{QUBITS, ROWS, TERMS};
 use crate::line::{hexes, joined, parsed, Case, Field};
-use crate::reduction::{first_bad, is_reduced, reduce, replay, Lists};
+use crate::reduction::{first_bad, is_reduced, reduce, replay, walk_back, Lists};
 use crate::rows::*;
 
 pub fn answer(line: &str) -> String {
@@ -58,9 +58,9 @@ fn refusal_of_sets(case: &Case) -> Option<u8> {
         (4, Box::new(|| sets.iter().any(|set| spare_bit(size, set)) || spare_bit_in_state(case))),
         (5, Box::new(|| sets.iter().any(|set| set.p.iter().any(|p| *p > 3)))),
         (6, Box::new(|| number_too_large(case, size, sets[0].p.len()))),
-        (7, Box::new(|| repeated_in(case, 5))),
-        (15, Box::new(|| repeated_in(case, 4))),
-        (9, Box::new(|| case.call == "check" && case.shorts(7).len() % 2 == 1)),
+        (7, Box::new(|| repeated_in(case, places_of(case).map(|places| places.1)))),
+        (15, Box::new(|| repeated_in(case, places_of(case).and_then(|places| places.0)))),
+        (9, Box::new(|| log_of(case).is_some_and(|log| log.len() % 2 == 1))),
     ])
 }
 
@@ -107,15 +107,32 @@ fn number_too_large(case: &Case, n: usize, m: usize) -> bool {
         "count" | "central" | "act" => row(4),
         "phase" | "phaset" | "comm" | "imul" => row(4) || row(5),
         "reduce" | "check" => columns(4) || rows(5) || rows(6),
+        "undo" => rows(4) || rows(5),
         _ => false,
     }
 }
 
-/// Whether a number stands twice in the order or in the listed rows.
-fn repeated_in(case: &Case, field: usize) -> bool {
-    if !matches!(case.call, "reduce" | "check") {
-        return false;
+/// The fields of the order, where there is one, and of the listed rows.
+fn places_of(case: &Case) -> Option<(Option<usize>, usize)> {
+    match case.call {
+        "reduce" | "check" => Some((Some(4), 5)),
+        "undo" => Some((None, 4)),
+        _ => None,
     }
+}
+
+/// The log that a call is given.
+fn log_of(case: &Case) -> Option<&[u16]> {
+    match case.call {
+        "check" => Some(case.shorts(7)),
+        "undo" => Some(case.shorts(6)),
+        _ => None,
+    }
+}
+
+/// Whether a number stands twice in the field, of an order or of listed rows.
+fn repeated_in(case: &Case, field: Option<usize>) -> bool {
+    let Some(field) = field else { return false };
     let mut sorted = case.shorts(field).to_vec();
     sorted.sort();
     sorted.windows(2).any(|pair| pair[0] == pair[1])
@@ -199,6 +216,7 @@ fn over_set(case: &Case) -> String {
             format!("ok {} {number}", rows_text(n, &rows))
         }
         "check" => check(case, n, rows),
+        "undo" => undo(case, n, rows),
         _ => reduction(case, n, rows),
     }
 }
@@ -283,6 +301,16 @@ fn check(case: &Case, n: usize, mut rows: Vec<Row>) -> String {
         None => "notreduced".to_string(),
     };
     format!("ok {verdict} {}", rows_text(n, &rows))
+}
+
+/// The entries are taken back, last to first, if all are good.
+fn undo(case: &Case, n: usize, mut rows: Vec<Row>) -> String {
+    let lists = Lists { order: &[], listed: case.shorts(4), extra: case.shorts(5) };
+    if let Some(k) = first_bad(rows.len(), lists, case.shorts(6)) {
+        return format!("ok bad {k} {}", rows_text(n, &rows));
+    }
+    walk_back(&mut rows, case.shorts(6));
+    format!("ok done {}", rows_text(n, &rows))
 }
 
 /// The places of the block's terms with the exponents of their actions.

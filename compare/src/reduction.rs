@@ -1,12 +1,19 @@
 //! The reduction rule, the replay and the reduced form, word for word from document 01.
 
-use crate::rows::{at_column, multiply, Row};
+use crate::rows::{at_column, inverse, multiply, row_product, Row};
 
 pub struct Reduction {
     pub log: Vec<(u16, u16)>,
     pub t: usize,
     /// The rule needed more entries than fit.
     pub full: bool,
+}
+
+impl Reduction {
+    /// The log as units: target, source, target, source.
+    pub fn units(&self) -> Vec<u16> {
+        self.log.iter().flat_map(|(a, b)| [*a, *b]).collect()
+    }
 }
 
 /// The places a reduction goes by.
@@ -63,6 +70,14 @@ pub fn first_bad(m: usize, lists: Lists, log: &[u16]) -> Option<usize> {
 pub fn replay(rows: &mut [Row], log: &[u16]) {
     for pair in log.chunks(2) {
         multiply(rows, pair[0] as usize, pair[1] as usize);
+    }
+}
+
+/// The entries of a log taken back, the last one first: the target by the inverse of the source.
+pub fn walk_back(rows: &mut [Row], log: &[u16]) {
+    for pair in log.chunks(2).rev() {
+        let (target, source) = (pair[0] as usize, pair[1] as usize);
+        rows[target] = row_product(&rows[target], &inverse(&rows[source]));
     }
 }
 

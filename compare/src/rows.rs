@@ -107,6 +107,12 @@ pub fn row_product(a: &Row, b: &Row) -> Row {
     Row { paulis: product(&a.paulis, &b.paulis), phase: exponent % 4 }
 }
 
+/// The row whose product with this one is the identity with exponent 0: each Pauli is its own inverse, and i to the p has
+/// the inverse i to the 4 - p.
+pub fn inverse(a: &Row) -> Row {
+    Row { paulis: a.paulis.clone(), phase: (4 - a.phase) % 4 }
+}
+
 /// Row a becomes row a times row b; with a = b the bits are cleared and the phase doubled, which the same rule gives.
 pub fn multiply(rows: &mut [Row], a: usize, b: usize) {
     rows[a] = row_product(&rows[a], &rows[b]);

@@ -127,6 +127,7 @@ pub fn over_rows(random: &mut Random, call: &str, n: usize, rows: Vec<Row>) -> C
             vec![Field::Number(units(random, &rows, lists))]
         }
         "reduce" => reduction(random, n, &rows),
+        "undo" => walked(random, n, &rows),
         _ => check(random, n, &rows),
     };
     call_on(call, n, &set, more)
@@ -150,14 +151,14 @@ fn second_set(random: &mut Random, n: usize, left: &[Row]) -> Vec<Field> {
     vec![Field::Words(right.x), Field::Words(right.z), Field::Bytes(right.p), Field::Lengths(lengths)]
 }
 
-struct OwnLists {
-    order: Vec<u16>,
-    listed: Vec<u16>,
-    extra: Vec<u16>,
+pub struct OwnLists {
+    pub order: Vec<u16>,
+    pub listed: Vec<u16>,
+    pub extra: Vec<u16>,
 }
 
 impl OwnLists {
-    fn lent(&self) -> Lists<'_> {
+    pub fn lent(&self) -> Lists<'_> {
         Lists { order: &self.order, listed: &self.listed, extra: &self.extra }
     }
 
@@ -166,7 +167,7 @@ impl OwnLists {
     }
 }
 
-fn lists(random: &mut Random, n: usize, m: usize) -> OwnLists {
+pub fn lists(random: &mut Random, n: usize, m: usize) -> OwnLists {
     let order = match random.below(5) {
         0 | 1 => random.permutation(2 * n),
         2 => random.subset(2 * n),
@@ -213,13 +214,55 @@ fn reduction(random: &mut Random, n: usize, rows: &[Row]) -> Vec<Field> {
 fn check(random: &mut Random, n: usize, start: &[Row]) -> Vec<Field> {
     let mut lists = lists(random, n, start.len());
     let mut claim = start.to_vec();
-    let done = reduce(&mut claim, lists.lent(), usize::MAX);
-    let mut log: Vec<u16> = done.log.iter().flat_map(|(a, b)| [*a, *b]).take(UNITS_IN_REACH - 2).collect();
+    let mut log = own_log(&mut claim, lists.lent());
     damage(random, n, start, &mut lists, &mut log, &mut claim);
     let claimed = packed(n, &claim);
     let claimed = vec![Field::Words(claimed.x), Field::Words(claimed.z), Field::Bytes(claimed.p)];
-    let log = if random.chance(500) { Field::Pairs(log) } else { Field::Shorts(log) };
-    [lists.fields(), vec![log], claimed].concat()
+    [lists.fields(), vec![either_form(random, log)], claimed].concat()
+}
+
+/// The units of a reduction's log, as many as a line has.
+fn own_log(rows: &mut [Row], lists: Lists) -> Vec<u16> {
+    let mut log = reduce(rows, lists, usize::MAX).units();
+    log.truncate(UNITS_IN_REACH - 2);
+    log
+}
+
+pub fn either_form(random: &mut Random, log: Vec<u16>) -> Field {
+    if random.chance(500) {
+        Field::Pairs(log)
+    } else {
+        Field::Shorts(log)
+    }
+}
+
+/// A log to be walked back: one of our own for these rows or for others, whole, cut or damaged in one place; or one that is
+/// made up of sound entries.
+fn walked(random: &mut Random, n: usize, rows: &[Row]) -> Vec<Field> {
+    let m = rows.len();
+    let mut lists = lists(random, n, m);
+    let mut log =
+        if random.chance(300) { others_log(random, &lists) } else { own_log(&mut rows.to_vec(), lists.lent()) };
+    if random.chance(200) {
+        log.truncate(2 * random.below(log.len() / 2 + 1));
+    }
+    damage(random, n, rows, &mut lists, &mut log, &mut rows.to_vec());
+    vec![Field::Shorts(lists.listed), Field::Shorts(lists.extra), either_form(random, log)]
+}
+
+/// Up to twenty entries, each of a listed or extra row by another, listed one.
+fn others_log(random: &mut Random, lists: &OwnLists) -> Vec<u16> {
+    let targets = [lists.listed.clone(), lists.extra.clone()].concat();
+    let mut log = vec![];
+    if !lists.listed.is_empty() {
+        for _ in 0..random.below(21) {
+            let (target, source) = (random.pick(&targets), random.pick(&lists.listed));
+            if target != source {
+                log.extend([target, source]);
+            }
+        }
+    }
+    log
 }
 
 fn damage(

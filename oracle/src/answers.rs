@@ -5,7 +5,7 @@ use std::collections::HashMap;
 use num_complex::Complex64;
 use oracle::container::bit_matrix::AsBitMatrix;
 use oracle::container::coeffs::complex_sign::{ComplexSign, ComplexSignVec};
-use oracle::container::coeffs::traits::NumReprVec;
+use oracle::container::coeffs::traits::{NumRepr, NumReprVec};
 use oracle::container::traits::{Elements, MutRefElements, RefElements};
 use oracle::container::word_iters::WordIters;
 use oracle::qubit::mode::{PauliMatrix, Qubits, SymplecticPart};
@@ -54,6 +54,7 @@ fn over_set(call: &str, n: usize, set: Set, f: &mut Fields) -> Option<String> {
         "reduce" => reduce(n, set, f),
         "reduceall" => reduce_all(n, set, f),
         "check" => replay(set, f),
+        "undo" => undo(set, f),
         _ => None,
     }
 }
@@ -206,6 +207,19 @@ fn replayed(mut set: Set, log: &[(usize, usize)]) -> Set {
 fn replay(set: Set, f: &mut Fields) -> Option<String> {
     let (_order, _listed, _extra) = (f.text()?, f.text()?, f.text()?);
     Some(format!("replay {}", set_text(&replayed(set, &f.log()?))))
+}
+
+/// The Rust has no undo. The rows are its own products, entry by entry from the last on, the source's coefficient being its
+/// conjugate meanwhile: that of a power of i is its inverse, and a Pauli is its own.
+fn undo(mut set: Set, f: &mut Fields) -> Option<String> {
+    let (_listed, _extra) = (f.text()?, f.text()?);
+    for (target, source) in f.log()?.into_iter().rev() {
+        let own = set.coeffs.get_unchecked(source);
+        set.coeffs.set_unchecked(source, own.conj());
+        set.imul(target, source);
+        set.coeffs.set_unchecked(source, own);
+    }
+    Some(format!("ok done {}", set_text(&set)))
 }
 
 /// The terms of a matrix element, with where each block of equal X words starts: in the Rust a map that the caller
