@@ -25,6 +25,8 @@ use Rattle.terms.specs.declared.Canonicalized.{Canonicalized}
 use Rattle.terms.specs.declared.Canonicalized.the-variants as reduced
 use Rattle.replay.specs.declared.Verdict.{Verdict}
 use Rattle.replay.specs.declared.Verdict.the-variants as verdict
+use Rattle.replay.specs.declared.Undone.{Undone}
+use Rattle.replay.specs.declared.Undone.the-variants as undone
 use Rattle.mat_elem.specs.declared.whole.Element as wholeElement
 use Rattle.mat_elem.specs.declared.whole.Element.the-variants as whole
 use Rattle.mat_elem.specs.declared.float.Element as floatElement
@@ -199,7 +201,7 @@ reduceLine (reduced.Done n t) units x z p = okReduced n t units x z p
 reduceLine (reduced.Full n) units x z p = fullLog n units x z p
 reduceLine (reduced.Refused k) units x z p = refuse k
 
--- ---- check
+-- ---- check, and undo
 
 -- ok V X Z P, where the verdict has a number or not
 unfoldable pub verdictAt : List ℕ → ℕ → List ℕ → List ℕ → List ℕ → List ℕ
@@ -214,6 +216,11 @@ checkLine (verdict.Differs r) x z p = verdictAt (letters "ok differs") r x z p
 checkLine verdict.NotReduced x z p = verdictPlain (letters "ok notreduced") x z p
 checkLine verdict.Yes x z p = verdictPlain (letters "ok yes") x z p
 checkLine (verdict.Refused k) x z p = refuse k
+
+abbrev pub undoLine : Undone → List ℕ → List ℕ → List ℕ → List ℕ
+undoLine (undone.BadEntry k) x z p = verdictAt (letters "ok bad") k x z p
+undoLine undone.Done x z p = verdictPlain (letters "ok done") x z p
+undoLine (undone.Refused k) x z p = refuse k
 
 -- ---- matrix elements
 

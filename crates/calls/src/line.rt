@@ -136,7 +136,7 @@ fn of_sets(
     r
 }
 
-// Reductions and the checker.
+// Reductions, the checker, and the way back.
 fn reductions(
     s: &[u8],
     n: usize,
@@ -161,6 +161,9 @@ fn reductions(
     }
     if is(s, n, b"check") {
         return reducing::check(s, n, x, z, p, order, listed, extra, log, x2, z2, p2, out, r);
+    }
+    if is(s, n, b"undo") {
+        return reducing::undo(s, n, x, z, p, listed, extra, log, out, r);
     }
     r
 }
@@ -220,6 +223,7 @@ fn late(s: &[u8], n: usize) -> bool {
         | is(s, n, b"reduce")
         | is(s, n, b"reduceall")
         | is(s, n, b"check")
+        | is(s, n, b"undo")
         | is(s, n, b"elemi")
         | is(s, n, b"elemf")
 }

@@ -1,4 +1,4 @@
-// Reductions, and the checker of their logs.
+// Reductions, the checker of their logs, and their way back.
 ghost use Prim.Native.Nat.{_≤_};
 ghost use lib.ListN.{length};
 use crate::ANSWER;
@@ -257,6 +257,90 @@ fn claimed(
         &x2[0..i2],
         &z2[0..j2],
         &p2[0..k2],
+        out,
+        r,
+    )
+}
+
+fn undone(
+    n: usize,
+    x: &mut [u64],
+    z: &mut [u64],
+    p: &mut [u8],
+    listed: &[u16],
+    extra: &[u16],
+    log: &[u16],
+    out: &mut [u8],
+    r: Put,
+) -> Put {
+    let a = replay::undo::undo(n, x, z, p, listed, extra, log);
+    say::undone(out, r, a, x, z, p)
+}
+
+pub(crate) fn undo(
+    s: &[u8],
+    at: usize,
+    x: &mut [u64; WORDS],
+    z: &mut [u64; WORDS],
+    p: &mut [u8; ROWS],
+    listed: &mut [u16; LIST],
+    extra: &mut [u16; LIST],
+    log: &mut [u16; LOG],
+    out: &mut [u8; ANSWER],
+    r: Put,
+) -> Put {
+    let q = read::read_rows(s, at, x, z, p);
+    let e = text::halves_field(s, q.at, listed);
+    let f = text::halves_field(s, e.at, extra);
+    let u = text::log_field(s, f.at, log);
+    if !(q.ok & (e.ok & (f.ok & (u.ok & (u.at == s.len()))))) {
+        return say::bad(out, r);
+    }
+    led_back(
+        q,
+        e.count,
+        f.count,
+        u.count,
+        x,
+        z,
+        p,
+        listed,
+        extra,
+        log,
+        out,
+        r,
+    )
+}
+
+// On the parts that the line filled.
+fn led_back(
+    q: Rows,
+    e: usize,
+    f: usize,
+    g: usize,
+    x: &mut [u64],
+    z: &mut [u64],
+    p: &mut [u8],
+    listed: &[u16],
+    extra: &[u16],
+    log: &[u16],
+    out: &mut [u8],
+    r: Put,
+) -> Put
+    requires { ⌜ (q .x ≤ length (now x)) × (q .z ≤ length (now z)) × (q .p ≤ length (now p)) ⌝ }
+    requires { ⌜ (e ≤ length (now listed)) × (f ≤ length (now extra)) × (g ≤ length (now log)) ⌝ }
+{
+    let i = q.x;
+    let j = q.z;
+    let k = q.p;
+    undone(
+        q.n,
+        &mut x[0..i],
+        &mut z[0..j],
+        &mut p[0..k],
+        &listed[0..e],
+        &extra[0..f],
+        &log[0..g],
         out,
         r,
     )

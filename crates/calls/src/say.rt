@@ -2,7 +2,7 @@
 ghost use mathlib.Core.Path.{_≡_};
 ghost use mathlib.Core.Bool.{cond};
 ghost use mathlib.Core.List.{[], _∷_, _++_};
-ghost use Rattle.calls.specs.Answers.{Says, numberText, wordText, integerText, floatText, wordsText, numbersText, setText, end as lineEnd, badLine, refuse as refused, okNumber, actedWord, letterOf, okLetter, gotLine, phaseLine, truthLine, tallyText, okCounts, countLine, okSet, changedLine, okProduct, productLine, okPairs, pairLine, okActed, actLine, okMatrix, matrixLine, pairsOf, pairText, pairsText, standing as standingText, okReduced, fullLog, reduceLine, verdictAt, verdictPlain, checkLine, okWhole, okFloat, wholeLine, floatLine};
+ghost use Rattle.calls.specs.Answers.{Says, numberText, wordText, integerText, floatText, wordsText, numbersText, setText, end as lineEnd, badLine, refuse as refused, okNumber, actedWord, letterOf, okLetter, gotLine, phaseLine, truthLine, tallyText, okCounts, countLine, okSet, changedLine, okProduct, productLine, okPairs, pairLine, okActed, actLine, okMatrix, matrixLine, pairsOf, pairText, pairsText, standing as standingText, okReduced, fullLog, reduceLine, verdictAt, verdictPlain, checkLine, undoLine, okWhole, okFloat, wholeLine, floatLine};
 ghost use Prim.Native.Nat.{_*_};
 ghost use lib.ListN.{take};
 ghost use Rattle.text.specs.Numbers.{numeral};
@@ -15,6 +15,7 @@ use cmpnt_list::Tally;
 use cmpnt_list::Truth;
 use encoding::Answer;
 use pauli::PauliMatrix;
+use replay::Undone;
 use replay::Verdict;
 use terms::Canonicalized;
 use terms::Clashes;
@@ -524,6 +525,16 @@ pub(crate) fn checked(out: &mut [u8], r: Put, a: Verdict, x: &[u64], z: &[u64], 
         Verdict::NotReduced => verdict(out, r, b"ok notreduced", x, z, p),
         Verdict::Yes => verdict(out, r, b"ok yes", x, z, p),
         Verdict::Refused(k) => refuse(out, r, k),
+    }
+}
+
+pub(crate) fn undone(out: &mut [u8], r: Put, a: Undone, x: &[u64], z: &[u64], p: &[u8]) -> Put
+    ensures { λ q. ⌜ Says (undoLine a (now (x .entry)) (now (z .entry)) (now (p .entry))) (now (out .entry)) r (now (out .exit)) q ⌝ }
+{
+    match a {
+        Undone::BadEntry(k) => verdict_at(out, r, b"ok bad", k, x, z, p),
+        Undone::Done => verdict(out, r, b"ok done", x, z, p),
+        Undone::Refused(k) => refuse(out, r, k),
     }
 }
 
