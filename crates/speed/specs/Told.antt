@@ -14,6 +14,8 @@ use Rattle.terms.specs.declared.Canonicalized.{Canonicalized}
 use Rattle.terms.specs.declared.Canonicalized.the-variants as reduced
 use Rattle.encoding.specs.Set.{Mem}
 use Rattle.replay.specs.Check.{Task, Claim, Checked}
+use Rattle.replay.specs.declared.Undone.{Undone}
+use Rattle.replay.specs.declared.Undone.the-variants as undone
 use Rattle.replay.specs.declared.Verdict.{Verdict}
 use Rattle.replay.specs.declared.Verdict.the-variants as verdict
 use Rattle.mat_elem.specs.declared.float.Element.{Element}
@@ -114,6 +116,22 @@ pub record Placed (place place′ r : ℕ) (v : Verdict) : Type 0 where
 
 abbrev pub CheckedOn : Task → Claim → Mem → Verdict → Type 0
 CheckedOn T L left v = Checked T L v left
+
+-- ---- a log walked back: 0 for done, else the refusal's number or the bad entry's, with its place; without one the place stays as it was
+
+abbrev pub undoneNumber : Undone → ℕ
+undoneNumber (undone.BadEntry k) = badEntry
+undoneNumber undone.Done = 0
+undoneNumber (undone.Refused k) = k
+
+abbrev pub entryOr : ℕ → Undone → ℕ
+entryOr old (undone.BadEntry k) = k
+entryOr old undone.Done = old
+entryOr old (undone.Refused k) = old
+
+pub record WalkedTo (place place′ r : ℕ) (a : Undone) : Type 0 where
+  pub number : r ≡ undoneNumber a
+  pub placed : place′ ≡ entryOr place a
 
 -- ---- a matrix element: the two parts of the sum, or 255 for no block; without a sum the parts stay as they were
 

@@ -4,12 +4,14 @@ ghost use Rattle.encoding.specs.Lent.{before, after};
 ghost use Rattle.cmpnt_list.specs.Calls.{CompatibilityMatrix, MulPairwise, phaseOfMul};
 ghost use Rattle.terms.specs.Calls.{Multiplies, ReducesAll, reducedNumber};
 ghost use Rattle.replay.specs.Check.{task, claim};
+ghost use Rattle.replay.specs.Undo.{Undoes};
 ghost use Rattle.mat_elem.specs.float.Product.{MatElem};
-ghost use Rattle.speed.specs.Told.{Told, Number, numberOf, Phased, Exactly, phaseNumber, exponentOr, productNumber, clashesOr, Multiplied, Counted, entriesOr, pivotsOr, verdictNumber, placeOr, Placed, CheckedOn, Parted, elementNumber, realOr, imagOr};
+ghost use Rattle.speed.specs.Told.{Told, Number, numberOf, Phased, Exactly, phaseNumber, exponentOr, productNumber, clashesOr, Multiplied, Counted, entriesOr, pivotsOr, verdictNumber, placeOr, Placed, CheckedOn, undoneNumber, entryOr, WalkedTo, Parted, elementNumber, realOr, imagOr};
 use cmpnt_list::Phase;
 use encoding::Answer;
 use mat_elem::float::Element;
 use pauli::RowNumber;
+use replay::Undone;
 use replay::Verdict;
 use terms::Canonicalized;
 use terms::Clashes;
@@ -237,6 +239,40 @@ pub extern "C" fn speed_check(
 {
     let v = replay::check(n, x, z, phases, order, listed, extra, log, cx, cz, cphases);
     let s = placed(v, *place);
+    *place = s.place;
+    s.number
+}
+
+// What is seen of walking back, with the place that stays where it names none.
+fn walked(a: Undone, place: usize) -> Place
+    ensures { λ r. ⌜ (r .number ≡ undoneNumber a) × (r .place ≡ entryOr place a) ⌝ }
+{
+    match a {
+        Undone::BadEntry(k) => Place {
+            number: BAD_ENTRY,
+            place: k,
+        },
+        Undone::Done => Place { number: 0, place },
+        Undone::Refused(k) => Place { number: k, place },
+    }
+}
+
+#[no_mangle]
+pub extern "C" fn speed_undo(
+    n: usize,
+    x: &mut [u64],
+    z: &mut [u64],
+    phases: &mut [u8],
+    listed: &[u16],
+    extra: &[u16],
+    log: &[u16],
+    place: &mut usize,
+) -> u8
+    ensures { λ r. ⌜ Told (Undoes n (now (listed .entry)) (now (extra .entry)) (now (log .entry)) (before x z phases) (after x z phases))
+        (WalkedTo (now (place .entry)) (now (place .exit)) r) ⌝ }
+{
+    let a = replay::undo::undo(n, x, z, phases, listed, extra, log);
+    let s = walked(a, *place);
     *place = s.place;
     s.number
 }
