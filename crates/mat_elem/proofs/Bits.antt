@@ -9,12 +9,12 @@ use native.Mathlib.Omega.{arith}
 use borrow.Author.Tests.{leb-true, leb-false, le-leb, lt-leb}
 use lib.Arith.{lt-one}
 use lib.Dec.{leb, ltb}
-use lib.ListN.{length, getD, drop}
+use lib.ListN.{length, getD, drop, drop-of-length-le}
 use Rattle.encoding.specs.Words.{odd, bit, bits}
 use Rattle.encoding.specs.Refusals.{some}
 use Rattle.encoding.proofs.Odd.{bit-odd}
 use Rattle.encoding.proofs.Scan.{none-of, some-none}
-use Rattle.encoding.proofs.WordLaws.{half-lt, Fit}
+use Rattle.encoding.proofs.WordLaws.{half-lt, length-bits, Fit}
 use Rattle.mat_elem.specs.Terms.{setFrom, badBits}
 use Rattle.mat_elem.specs.Workers.{Looked}
 
@@ -54,26 +54,32 @@ from (suc n) (suc d) w l h =
 pub set-none : (n w : ℕ) → n ≤ 64 → w < 2 ^ 64 → setFrom n w ≡ false → w < 2 ^ n
 set-none n w l h e = leb-false (2 ^ n) w (sym (from n 64 w l h) ∙ e)
 
--- where the line 4 does not fit, every word is below 2 ^ n
-pub record Low (n : ℕ) (xs zs : List ℕ) (bra ket : ℕ) : Type 0 where
+-- where the line 4 does not fit, every word of the terms is below 2 ^ n, and nothing is wrong beside them
+pub record Low (n : ℕ) (xs zs : List ℕ) (beside : Bool) : Type 0 where
   pub x-low : (k : ℕ) → k < length xs → getD xs k 0 < 2 ^ n
   pub z-low : (k : ℕ) → k < length zs → getD zs k 0 < 2 ^ n
-  pub bra-low : bra < 2 ^ n
-  pub ket-low : ket < 2 ^ n
+  pub none-beside : beside ≡ false
 
-pub low-of : (n : ℕ) (xs zs : List ℕ) (bra ket : ℕ) → n ≤ 64 → badBits n xs zs bra ket ≡ false → Fit xs → Fit zs → bra < 2 ^ 64 → ket < 2 ^ 64 → Low n xs zs bra ket
-low-of n xs zs bra ket l e fx fz hb hk =
+pub low-list : (n : ℕ) (ws : List ℕ) → n ≤ 64 → some (setFrom n) ws ≡ false → Fit ws → (k : ℕ) → k < length ws → getD ws k 0 < 2 ^ n
+low-list n ws l e f k h = set-none n (getD ws k 0) l (f k .fits) (some-none (setFrom n) 0 ws e k h)
+
+pub low-of : (n : ℕ) (xs zs : List ℕ) (beside : Bool) → n ≤ 64 → badBits n xs zs beside ≡ false → Fit xs → Fit zs → Low n xs zs beside
+low-of n xs zs beside l e fx fz =
     let a = some (setFrom n) xs in
     let b = some (setFrom n) zs in
-    let k = none-of (a || b || setFrom n bra) (setFrom n ket) e in
-    let r = none-of (a || b) (setFrom n bra) (k .0) in
+    let r = none-of (a || b) beside e in
     let t = none-of a b (r .0) in
-    record {
-      x-low = λ i h. set-none n (getD xs i 0) l (fx i .fits) (some-none (setFrom n) 0 xs (t .0) i h);
-      z-low = λ i h. set-none n (getD zs i 0) l (fz i .fits) (some-none (setFrom n) 0 zs (t .1) i h);
-      bra-low = set-none n bra l hb (r .1);
-      ket-low = set-none n ket l hk (k .1);
-    }
+    record { x-low = low-list n xs l (t .0) fx; z-low = low-list n zs l (t .1) fz; none-beside = r .1 }
+
+-- past the last bit there is none
+past-bits : (n d w : ℕ) → d ≤ n → drop n (bits d w) ≡ []
+past-bits n d w h =
+    let l : length (bits d w) ≤ n = rw (length-bits d w) h in
+    drop-of-length-le (bits d w) l
+
+pub set-past : (n w : ℕ) → 64 ≤ n → false ≡ setFrom n w
+unfolding some
+set-past n w h = sym (ap (some (λ (b : Bool). b)) (past-bits n 64 w h))
 
 module _ (n top : ℕ) (l : n ≤ 64) (e : suc top ≡ 2 ^ n) where
   pub set-above : (w : ℕ) → w < 2 ^ 64 → setFrom n w ≡ ltb top w
@@ -85,6 +91,5 @@ module _ (n top : ℕ) (l : n ≤ 64) (e : suc top ≡ 2 ^ n) where
   some-above (w ∷ ws) f = ap₂ _||_ (set-above w (f 0 .fits)) (some-above ws (λ k. f (suc k)))
 
   -- the line 4, by what one pass over the terms found
-  pub bits-seen : {xs zs : List ℕ} (bra ket : ℕ) {high fell : Bool} → Fit xs → Fit zs → bra < 2 ^ 64 → ket < 2 ^ 64 → Looked xs zs top high fell
-      → badBits n xs zs bra ket ≡ (high || ltb top bra || ltb top ket)
-  bits-seen {xs} {zs} bra ket fx fz hb hk s = rw (some-above xs fx, some-above zs fz, set-above bra hb, set-above ket hk, s .is-above)
+  pub bits-seen : {xs zs : List ℕ} (beside : Bool) {high fell : Bool} → Fit xs → Fit zs → Looked xs zs top high fell → badBits n xs zs beside ≡ (high || beside)
+  bits-seen {xs} {zs} beside fx fz s = rw (some-above xs fx, some-above zs fz, s .is-above)

@@ -1,7 +1,7 @@
 -- A term's matrix between bra and ket: i to the action's exponent where X = bra XOR ket, and zero elsewhere. So the entry of the whole operator's matrix is
 -- the sum over the block. Assumes nothing.
 use mathlib.Core.Path.{_≡_, refl, sym, ap, ap₂, _∙_}
-use mathlib.Core.Bool.{Bool, true, false, cond, _&&_, Bool·beq}
+use mathlib.Core.Bool.{Bool, true, false, cond, _&&_, _||_, Bool·beq}
 use mathlib.Core.List.{List, _∷_}
 use Prim.Native.Nat.{ℕ, zero, suc, _+_, _*_, _/_, _%_, _^_, _≤_, _<_}
 use native.Mathlib.Nat.{le-of-suc-le-suc, not-suc-le-zero, mod-mod, zero-add}
@@ -19,12 +19,13 @@ use Rattle.pauli.proofs.GaussRing.{by-parts, ipow-mod}
 use Rattle.pauli.proofs.Vectors.{⊗-g0, ⊗-g1, column-is}
 use Rattle.encoding.specs.Words.{odd, bit, word, bits}
 use Rattle.encoding.specs.Refusals.{fault}
+use Rattle.encoding.proofs.Scan.{none-of}
 use Rattle.encoding.proofs.Odd.{xorᵇ, bit-odd, xor-odd, xor-half}
 use Rattle.encoding.proofs.WordLaws.{half-lt, back, length-word, length-bits, bits-act, Fit}
-use Rattle.mat_elem.specs.Terms.{termTests, inBlock}
+use Rattle.mat_elem.specs.Terms.{setFrom, termTests, inBlock}
 use Rattle.mat_elem.specs.Sums.{exponentOf, stepIf, sumOver}
 use Rattle.mat_elem.specs.Operator.{termMatrix, stateOf, coefficient, operator}
-use Rattle.mat_elem.proofs.Bits.{low-of}
+use Rattle.mat_elem.proofs.Bits.{set-none, low-of}
 use Rattle.mat_elem.proofs.Faults.{sound}
 
 -- ---- the word of a state, and the state
@@ -96,7 +97,7 @@ take-word zero d x z l = refl
 take-word (suc n) zero x z l = absurd (not-suc-le-zero l)
 take-word (suc n) (suc d) x z l = ap (λ (ps : List Pauli). ofBits (odd x) (odd z) ∷ ps) (take-word n d (x / 2) (z / 2) (le-of-suc-le-suc l))
 
-take-bits : (n d r : ℕ) → n ≤ d → take n (bits d r) ≡ bits n r
+pub take-bits : (n d r : ℕ) → n ≤ d → take n (bits d r) ≡ bits n r
 unfolding bits
 take-bits zero d r l = refl
 take-bits (suc n) zero r l = absurd (not-suc-le-zero l)
@@ -148,11 +149,18 @@ module _ (n : ℕ) (xs zs : List ℕ) (re im : List ℤ) (bra ket : ℕ) where
       step (eqb (getD xs i 0) (bitXor bra ket)) _ _ (coefficient re im i) _ (ipow (exponentOf (getD xs i 0) (getD zs i 0) ket)) (upto l hb hk h i (omega arith))
       (term-entry n bra ket (getD xs i 0) (getD zs i 0) l hb hk (h i u .0) (h i u .1))
 
-  -- where nothing is refused, the entry of the operator's matrix between bra and ket is the sum over the block
-  pub operator-entry : (reals imags : ℕ) → fault (termTests n xs zs reals imags bra ket) ≡ 0 → Fit xs → Fit zs → bra < 2 ^ 64 → ket < 2 ^ 64
+  -- terms, bra and ket of n bits: the entry of the operator's matrix between bra and ket is the sum over the block
+  pub entry-low : n ≤ 64 → bra < 2 ^ n → ket < 2 ^ n → ((k : ℕ) → k < length xs → (getD xs k 0 < 2 ^ n) × (getD zs k 0 < 2 ^ n))
       → operator n xs zs re im (stateOf n bra) (stateOf n ket) ≡ sumOver (inBlock xs (bitXor bra ket)) _⊕_ g0 (adds xs zs re im ket) (length xs)
   unfolding operator
+  entry-low l hb hk h = upto l hb hk h (length xs) (omega arith)
+
+  -- where nothing is refused
+  pub operator-entry : (reals imags : ℕ) → fault (termTests n xs zs reals imags bra ket) ≡ 0 → Fit xs → Fit zs → bra < 2 ^ 64 → ket < 2 ^ 64
+      → operator n xs zs re im (stateOf n bra) (stateOf n ket) ≡ sumOver (inBlock xs (bitXor bra ket)) _⊕_ g0 (adds xs zs re im ket) (length xs)
   operator-entry reals imags e fx fz hb hk =
       let s = sound n xs zs reals imags bra ket e in
-      let w = low-of n xs zs bra ket (s .shape .most) (s .low) fx fz hb hk in
-      upto (s .shape .most) (w .bra-low) (w .ket-low) (λ k h. (w .x-low k h, w .z-low k (omega (arith, s .shape .z-long)))) (length xs) (omega arith)
+      let l = s .shape .most in
+      let w = low-of n xs zs (setFrom n bra || setFrom n ket) l (s .low) fx fz in
+      let b = none-of (setFrom n bra) (setFrom n ket) (w .none-beside) in
+      entry-low l (set-none n bra l hb (b .0)) (set-none n ket l hk (b .1)) (λ k h. (w .x-low k h, w .z-low k (omega (arith, s .shape .z-long))))

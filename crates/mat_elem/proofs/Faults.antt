@@ -2,7 +2,7 @@
 -- The first part's number comes first (`fault-append`); from number 0 each test is false, and that gives lengths, limits and order.
 use mathlib.Core.Path.{_≡_, refl, sym, ap, ap₂, _∙_, subst₂}
 use mathlib.Core.Bool.{Bool, false, not, _||_}
-use mathlib.Core.List.{List, [], _∷_}
+use mathlib.Core.List.{List}
 use Prim.Native.Nat.{ℕ, zero, suc, _≤_}
 use native.Mathlib.Nat.{suc-ne-zero}
 use native.Mathlib.Omega.{arith}
@@ -13,17 +13,11 @@ use lib.ListN.{length}
 use Rattle.encoding.specs.Refusals.{fault, faultFrom}
 use Rattle.encoding.proofs.Faults.{no-test, orElse, or-none, or-first, fault-append}
 use Rattle.encoding.proofs.Scan.{none-of}
-use Rattle.mat_elem.specs.Terms.{minQubits, maxQubits, maxTerms, badCount, tooMany, badLengths, badBits, falls, termTests}
-use Rattle.mat_elem.specs.Workers.{blockFrom, blockTo, foundOr, foundOf, BlockOf, PartOf}
+use Rattle.mat_elem.specs.Terms.{minQubits, maxQubits, maxTerms, tooMany, badLengths, setFrom, badBits, falls, linesTo10, termTests}
+use Rattle.mat_elem.specs.Workers.{shapeTests, wordTests, blockFrom, blockTo, placeOf, foundOr, foundOf, BlockOf, PartOf}
+use Rattle.mat_elem.specs.declared.Place.{Place}
 use Rattle.mat_elem.specs.declared.Found.the-variants.{Block, Refused}
 use Rattle.mat_elem.proofs.Places.{block-of}
-
--- ---- the table in two parts: what the lengths tell, and what the words tell
-abbrev pub shapeTests : ℕ → ℕ → ℕ → ℕ → ℕ → List Bool
-shapeTests n m z reals imags = badCount n ∷ tooMany m ∷ badLengths m z reals imags ∷ []
-
-abbrev pub wordTests : ℕ → List ℕ → List ℕ → ℕ → ℕ → List Bool
-wordTests n xs zs bra ket = badBits n xs zs bra ket ∷ false ∷ false ∷ false ∷ false ∷ false ∷ falls xs ∷ []
 
 pub record Shape (n m z reals imags : ℕ) : Type 0 where
   pub least : minQubits ≤ n
@@ -33,64 +27,87 @@ pub record Shape (n m z reals imags : ℕ) : Type 0 where
   pub re-long : reals ≡ m
   pub im-long : imags ≡ m
 
-pub shape-sound : (n m z reals imags : ℕ) → fault (shapeTests n m z reals imags) ≡ 0 → Shape n m z reals imags
-shape-sound n m z reals imags e =
-    let no = no-test 0 (shapeTests n m z reals imags) e in
-    let zr = none-of (not (eqb z m) || not (eqb reals m)) (not (eqb imags m)) (no 2) in
+-- what is known where the lines 1 to 3 do not fit, of the terms and of what stands beside them
+pub record Shaped (n m z reals imags : ℕ) (many unequal : Bool) : Type 0 where
+  pub shape : Shape n m z reals imags
+  pub not-many : many ≡ false
+  pub equal : unequal ≡ false
+
+pub shape-sound : (n m z reals imags : ℕ) (many unequal : Bool) → fault (shapeTests n m z reals imags many unequal) ≡ 0 → Shaped n m z reals imags many unequal
+shape-sound n m z reals imags many unequal e =
+    let no = no-test 0 (shapeTests n m z reals imags many unequal) e in
+    let two = none-of many (tooMany m) (no 1) in
+    let three = none-of unequal (badLengths m z reals imags) (no 2) in
+    let zr = none-of (not (eqb z m) || not (eqb reals m)) (not (eqb imags m)) (three .1) in
     let zs = none-of (not (eqb z m)) (not (eqb reals m)) (zr .0) in
     let r = none-of (ltb n minQubits) (ltb maxQubits n) (no 0) in
     record {
-      least = ltb-false n minQubits (r .0);
-      most = ltb-false maxQubits n (r .1);
-      short = ltb-false maxTerms m (no 1);
-      z-long = eqb-true z m (not-false _ (zs .0));
-      re-long = eqb-true reals m (not-false _ (zs .1));
-      im-long = eqb-true imags m (not-false _ (zr .1));
+      shape = record {
+        least = ltb-false n minQubits (r .0);
+        most = ltb-false maxQubits n (r .1);
+        short = ltb-false maxTerms m (two .1);
+        z-long = eqb-true z m (not-false _ (zs .0));
+        re-long = eqb-true reals m (not-false _ (zs .1));
+        im-long = eqb-true imags m (not-false _ (zr .1));
+      };
+      not-many = two .0;
+      equal = three .0;
     }
 
 -- what is known of terms of which nothing is refused
-pub record Sound (n : ℕ) (xs zs : List ℕ) (reals imags bra ket : ℕ) : Type 0 where
+pub record Sound (n : ℕ) (xs zs : List ℕ) (reals imags : ℕ) (many unequal beside : Bool) : Type 0 where
   pub shape : Shape n (length xs) (length zs) reals imags
-  pub low : badBits n xs zs bra ket ≡ false
+  pub not-many : many ≡ false
+  pub equal : unequal ≡ false
+  pub low : badBits n xs zs beside ≡ false
   pub rising : falls xs ≡ false
 
-module _ (n : ℕ) (xs zs : List ℕ) (reals imags bra ket : ℕ) where
-  abbrev shape : ℕ
-  shape = fault (shapeTests n (length xs) (length zs) reals imags)
+module _ (n : ℕ) (xs zs : List ℕ) (reals imags : ℕ) (many unequal beside : Bool) where
+  abbrev shapeNo : ℕ
+  shapeNo = fault (shapeTests n (length xs) (length zs) reals imags many unequal)
 
-  abbrev words : ℕ
-  words = faultFrom 4 (wordTests n xs zs bra ket)
+  abbrev wordNo : ℕ
+  wordNo = faultFrom 4 (wordTests n xs zs beside)
 
-  both : fault (termTests n xs zs reals imags bra ket) ≡ orElse shape words
-  both = fault-append 0 (shapeTests n (length xs) (length zs) reals imags) (wordTests n xs zs bra ket)
+  abbrev lineNo : ℕ
+  lineNo = fault (linesTo10 n xs zs reals imags many unequal beside)
+
+  both : lineNo ≡ orElse shapeNo wordNo
+  both = fault-append 0 (shapeTests n (length xs) (length zs) reals imags many unequal) (wordTests n xs zs beside)
+
+  -- ---- the number, from the two parts
+  pub lines-shape : {k : ℕ} → k ≡ shapeNo → (k ≡ 0 → ⊥) → k ≡ lineNo
+  lines-shape {k} e h = e ∙ sym (both ∙ or-first shapeNo wordNo (λ z. h (e ∙ z)))
+
+  pub lines-words : {k j : ℕ} → j ≡ shapeNo → j ≡ 0 → k ≡ wordNo → k ≡ lineNo
+  lines-words {k} {j} s z e = e ∙ sym (both ∙ ap (λ (i : ℕ). orElse i wordNo) (sym s ∙ z))
 
   -- ---- no line fits
-  pub words-sound : words ≡ 0 → (badBits n xs zs bra ket ≡ false) × (falls xs ≡ false)
-  words-sound e =
-      let no = no-test 3 (wordTests n xs zs bra ket) e in
-      (no 0, no 6)
+  pub lines-sound : lineNo ≡ 0 → Sound n xs zs reals imags many unequal beside
+  lines-sound e =
+      let o = or-none shapeNo wordNo (sym both ∙ e) in
+      let no = no-test 3 (wordTests n xs zs beside) (o .1) in
+      let s = shape-sound n (length xs) (length zs) reals imags many unequal (o .0) in
+      record { shape = s .shape; not-many = s .not-many; equal = s .equal; low = no 0; rising = no 6 }
 
-  pub sound : fault (termTests n xs zs reals imags bra ket) ≡ 0 → Sound n xs zs reals imags bra ket
-  sound e =
-      let o = or-none shape words (sym both ∙ e) in
-      let w = words-sound (o .1) in
-      record { shape = shape-sound n (length xs) (length zs) reals imags (o .0); low = w .0; rising = w .1 }
+-- ---- one bra and one ket
+module _ (n : ℕ) (xs zs : List ℕ) (reals imags bra ket : ℕ) where
+  pub sound : fault (termTests n xs zs reals imags bra ket) ≡ 0 → Sound n xs zs reals imags false false (setFrom n bra || setFrom n ket)
+  sound = lines-sound n xs zs reals imags false false (setFrom n bra || setFrom n ket)
+
+  pub number-is : {p q : Bool} {k : ℕ} → p ≡ setFrom n bra → q ≡ setFrom n ket → k ≡ fault (linesTo10 n xs zs reals imags false false (p || q))
+      → k ≡ fault (termTests n xs zs reals imags bra ket)
+  number-is e f g = g ∙ ap₂ (λ (x y : Bool). fault (linesTo10 n xs zs reals imags false false (x || y))) e f
 
   -- ---- what is found
-  found-refused : (k : ℕ) → (k ≡ 0 → ⊥) → fault (termTests n xs zs reals imags bra ket) ≡ k → Refused k ≡ foundOf n xs zs reals imags bra ket
+  pub found-refused : (k : ℕ) → (k ≡ 0 → ⊥) → fault (termTests n xs zs reals imags bra ket) ≡ k → Refused k ≡ foundOf n xs zs reals imags bra ket
   unfolding foundOf
   found-refused zero h e = absurd (h refl)
   found-refused (suc k) h e = rw e
 
-  pub found-shape : {k : ℕ} → k ≡ shape → (k ≡ 0 → ⊥) → Refused k ≡ foundOf n xs zs reals imags bra ket
-  found-shape {k} e h = found-refused k h (both ∙ or-first shape words (λ z. h (e ∙ z)) ∙ sym e)
-
-  pub found-words : {k : ℕ} → shape ≡ 0 → k ≡ words → (k ≡ 0 → ⊥) → Refused k ≡ foundOf n xs zs reals imags bra ket
-  found-words {k} s e h = found-refused k h (both ∙ ap (λ (j : ℕ). orElse j words) s ∙ sym e)
-
-  pub found-none : shape ≡ 0 → words ≡ 0 → foundOr 0 (blockFrom xs (bitXor bra ket)) (blockTo xs (bitXor bra ket)) ≡ foundOf n xs zs reals imags bra ket
+  pub found-none : fault (termTests n xs zs reals imags bra ket) ≡ 0 → {p : Place} → p ≡ placeOf xs (bitXor bra ket) → Block (p .first) (p .last) ≡ foundOf n xs zs reals imags bra ket
   unfolding foundOf
-  found-none s w = rw (both ∙ ap₂ orElse s w)
+  found-none e q = rw (e, q)
 
   -- ---- what a caller learns from it
   abbrev number : ℕ

@@ -34,9 +34,9 @@ badLengths m z reals imags = not (eqb z m) || not (eqb reals m) || not (eqb imag
 abbrev pub setFrom : ℕ → ℕ → Bool
 setFrom n w = some (λ (b : Bool). b) (drop n (bits 64 w))
 
--- 4: a bit set at n or above, in terms, bra or ket
-abbrev pub badBits : ℕ → List ℕ → List ℕ → ℕ → ℕ → Bool
-badBits n xs zs bra ket = some (setFrom n) xs || some (setFrom n) zs || setFrom n bra || setFrom n ket
+-- 4: a bit set at n or above, in the terms or in the words beside them
+abbrev pub badBits : ℕ → List ℕ → List ℕ → Bool → Bool
+badBits n xs zs beside = some (setFrom n) xs || some (setFrom n) zs || beside
 
 -- 10: X falls somewhere in the terms: a word is below the one before it. Below 0, which stands before the first, there is none
 unfoldable pub fallsAfter : ℕ → List ℕ → Bool
@@ -46,13 +46,14 @@ fallsAfter p (w ∷ ws) = ltb w p || fallsAfter w ws
 abbrev pub falls : List ℕ → Bool
 falls xs = fallsAfter 0 xs
 
--- the lines 1 to 10 of the table, each by its test; reals and imags are the numbers of real and of imaginary parts
-abbrev pub termTests : ℕ → List ℕ → List ℕ → ℕ → ℕ → ℕ → ℕ → List Bool
-termTests n xs zs reals imags bra ket =
+-- the lines 1 to 10 of the table, each by its test; reals and imags are the numbers of real and of imaginary parts. What a call takes beside the terms
+-- has its part of the lines 2, 3 and 4: many, unequal, beside
+abbrev pub linesTo10 : ℕ → List ℕ → List ℕ → ℕ → ℕ → Bool → Bool → Bool → List Bool
+linesTo10 n xs zs reals imags many unequal beside =
     badCount n
-    ∷ tooMany (length xs)
-    ∷ badLengths (length xs) (length zs) reals imags
-    ∷ badBits n xs zs bra ket
+    ∷ (many || tooMany (length xs))
+    ∷ (unequal || badLengths (length xs) (length zs) reals imags)
+    ∷ badBits n xs zs beside
     ∷ false
     ∷ false
     ∷ false
@@ -60,6 +61,10 @@ termTests n xs zs reals imags bra ket =
     ∷ false
     ∷ falls xs
     ∷ []
+
+-- beside one bra and one ket
+abbrev pub termTests : ℕ → List ℕ → List ℕ → ℕ → ℕ → ℕ → ℕ → List Bool
+termTests n xs zs reals imags bra ket = linesTo10 n xs zs reals imags false false (setFrom n bra || setFrom n ket)
 
 -- ---- the block of t: the terms with X = t
 

@@ -1,16 +1,17 @@
 // What the two editions of matrix elements share: the tests of the terms, the block's place among them, and the exponent of a term's action on the ket.
 ghost use mathlib.Core.Path.{_≡_};
 ghost use mathlib.Core.Bool.{Bool, false};
-ghost use mathlib.Core.List.{List, [], _∷_};
 ghost use Prim.Native.Nat.{ℕ, suc, _^_, _≤_};
 ghost use lib.ListN.{length};
 ghost use Rattle.encoding.specs.Refusals.{fault, faultFrom};
-ghost use Rattle.mat_elem.specs.Terms.{maxQubits, badCount, tooMany, badLengths, badBits, falls};
-ghost use Rattle.mat_elem.specs.Workers.{blockFrom, foundOr, blockTo, foundOf, Looked};
+ghost use Rattle.mat_elem.specs.Terms.{maxQubits, setFrom, falls, linesTo10};
+ghost use Rattle.mat_elem.specs.Lent.{lent};
+ghost use Rattle.mat_elem.specs.Workers.{shapeTests, wordTests, Looked, blockFrom, placeOf, foundOf};
 ghost use Rattle.mat_elem.specs.Sums.{exponentOf};
 use pauli::ComplexSign;
 
 pub mod float;
+pub mod states;
 pub mod whole;
 
 // n from 1 to 64, and 0 to 65,536 terms.
@@ -21,22 +22,35 @@ pub const MAX_QUBITS: usize = 64;
 pub const MAX_TERMS: usize = 65_536;
 
 // Where the block of a word lies: from its first place up to, not including, its last. Empty where no term has that X.
+pub(crate) struct Place {
+    first: usize,
+    last: usize,
+}
+
 pub(crate) enum Found {
     Block(usize, usize),
     Refused(u8),
 }
 
 // The lines 1 to 3 of the table, which need no look at the terms.
-fn shape_fault(n: usize, m: usize, z: usize, reals: usize, imags: usize) -> u8
-    ensures { λ r. ⌜ r ≡ fault (badCount n ∷ tooMany m ∷ badLengths m z reals imags ∷ []) ⌝ }
+fn shape_fault(
+    n: usize,
+    m: usize,
+    z: usize,
+    reals: usize,
+    imags: usize,
+    many: bool,
+    unequal: bool,
+) -> u8
+    ensures { λ r. ⌜ r ≡ fault (shapeTests n m z reals imags many unequal) ⌝ }
 {
     if (n < MIN_QUBITS) | (MAX_QUBITS < n) {
         return 1;
     }
-    if MAX_TERMS < m {
+    if many | (MAX_TERMS < m) {
         return 2;
     }
-    if (z != m) | (reals != m) | (imags != m) {
+    if unequal | ((z != m) | (reals != m) | (imags != m)) {
         return 3;
     }
     0
@@ -54,6 +68,16 @@ fn top_word(n: usize) -> u64
     }
 }
 
+// Whether a bit of w is set at n or above.
+pub(crate) fn above(n: usize, w: u64) -> bool
+    ensures { λ r. ⌜ r ≡ setFrom n w ⌝ }
+{
+    if MAX_QUBITS <= n {
+        return false;
+    }
+    top_word(n) < w
+}
+
 // What one pass over the terms finds: a word above the largest, and a fall of X.
 struct Seen {
     above: bool,
@@ -62,7 +86,7 @@ struct Seen {
 
 fn look(x: &[u64], z: &[u64], top: u64) -> Seen
     requires { ⌜ length (now z) ≡ length (now x) ⌝ }
-    ensures { λ r. ⌜ Looked (now (x .entry)) (now (z .entry)) top (r .above) (r .falls) ⌝ }
+    ensures { λ r. ⌜ Looked (lent x) (lent z) top (r .above) (r .falls) ⌝ }
 {
     let mut above = false;
     let mut falls = false;
@@ -80,14 +104,14 @@ fn look(x: &[u64], z: &[u64], top: u64) -> Seen
 }
 
 // The lines 4 to 10.
-fn word_fault(n: usize, x: &[u64], z: &[u64], bra: u64, ket: u64) -> u8
+fn word_fault(n: usize, x: &[u64], z: &[u64], beside: bool) -> u8
     requires { ⌜ n ≤ maxQubits ⌝ }
     requires { ⌜ length (now z) ≡ length (now x) ⌝ }
-    ensures { λ r. ⌜ r ≡ faultFrom 4 (badBits n (now (x .entry)) (now (z .entry)) bra ket ∷ false ∷ false ∷ false ∷ false ∷ false ∷ falls (now (x .entry)) ∷ []) ⌝ }
+    ensures { λ r. ⌜ r ≡ faultFrom 4 (wordTests n (lent x) (lent z) beside) ⌝ }
 {
     let top = top_word(n);
     let seen = look(x, z, top);
-    if seen.above | (top < bra) | (top < ket) {
+    if seen.above | beside {
         return 4;
     }
     if seen.falls {
@@ -96,10 +120,30 @@ fn word_fault(n: usize, x: &[u64], z: &[u64], bra: u64, ket: u64) -> u8
     0
 }
 
+// The first of the lines 1 to 10 that fits. Of the coefficients only the lengths of their slices are asked.
+pub(crate) fn term_fault(
+    n: usize,
+    x: &[u64],
+    z: &[u64],
+    reals: usize,
+    imags: usize,
+    many: bool,
+    unequal: bool,
+    beside: bool,
+) -> u8
+    ensures { λ r. ⌜ r ≡ fault (linesTo10 n (lent x) (lent z) reals imags many unequal beside) ⌝ }
+{
+    let shape = shape_fault(n, x.len(), z.len(), reals, imags, many, unequal);
+    if shape != 0 {
+        return shape;
+    }
+    word_fault(n, x, z, beside)
+}
+
 // The first place whose word is t or more.
 fn lower(x: &[u64], t: u64) -> usize
     requires { ⌜ falls (now x) ≡ false ⌝ }
-    ensures { λ r. ⌜ r ≡ blockFrom (now (x .entry)) t ⌝ }
+    ensures { λ r. ⌜ r ≡ blockFrom (lent x) t ⌝ }
 {
     let mut lo = 0;
     let mut hi = x.len();
@@ -115,22 +159,22 @@ fn lower(x: &[u64], t: u64) -> usize
 }
 
 // The run of words that are t.
-fn block(x: &[u64], t: u64) -> Found
+pub(crate) fn block(x: &[u64], t: u64) -> Place
     requires { ⌜ falls (now x) ≡ false ⌝ }
-    ensures { λ r. ⌜ r ≡ foundOr 0 (blockFrom (now (x .entry)) t) (blockTo (now (x .entry)) t) ⌝ }
+    ensures { λ r. ⌜ r ≡ placeOf (lent x) t ⌝ }
 {
     let first = lower(x, t);
     let mut last = first;
     while last < x.len() {
         if x[last] != t {
-            return Found::Block(first, last);
+            return Place { first, last };
         }
         last += 1;
     }
-    Found::Block(first, last)
+    Place { first, last }
 }
 
-// The first line of the table that fits the terms, or else the block of bra XOR ket. Of the coefficients only the lengths of their slices are asked.
+// The first line of the table that fits the terms, or else the block of bra XOR ket.
 pub(crate) fn find_block(
     n: usize,
     x: &[u64],
@@ -140,17 +184,15 @@ pub(crate) fn find_block(
     bra: u64,
     ket: u64,
 ) -> Found
-    ensures { λ r. ⌜ r ≡ foundOf n (now (x .entry)) (now (z .entry)) reals imags bra ket ⌝ }
+    ensures { λ r. ⌜ r ≡ foundOf n (lent x) (lent z) reals imags bra ket ⌝ }
 {
-    let shape = shape_fault(n, x.len(), z.len(), reals, imags);
-    if shape != 0 {
-        return Found::Refused(shape);
+    let beside = above(n, bra) | above(n, ket);
+    let number = term_fault(n, x, z, reals, imags, false, false, beside);
+    if number != 0 {
+        return Found::Refused(number);
     }
-    let words = word_fault(n, x, z, bra, ket);
-    if words != 0 {
-        return Found::Refused(words);
-    }
-    block(x, bra ^ ket)
+    let p = block(x, bra ^ ket);
+    Found::Block(p.first, p.last)
 }
 
 // The exponent of i of a term's action on the ket.

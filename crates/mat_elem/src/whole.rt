@@ -2,14 +2,14 @@
 ghost use mathlib.Core.Path.{_≡_};
 ghost use mathlib.Core.Bool.{Bool};
 ghost use Prim.Native.Nat.{ℕ};
-ghost use lib.Dec.{leb};
-ghost use lib.IntN.{pos, negℤ, _+ℤ_};
+ghost use lib.Bits.{bitXor};
+ghost use lib.IntN.{negℤ, _+ℤ_};
 ghost use lib.ListN.{length};
 ghost use mir.Syntax.{w64};
 ghost use mir.Val.{SFits};
-ghost use Rattle.mat_elem.specs.Workers.{PartOf, partMax, sumMax, Within};
-ghost use Rattle.mat_elem.specs.Sums.{sumOver};
-ghost use Rattle.mat_elem.specs.whole.Sums.{complex, turnedBy, plus, termAt, MatElem};
+ghost use Rattle.mat_elem.specs.Lent.{lent};
+ghost use Rattle.mat_elem.specs.Workers.{PartOf, partMax, sumMax, Within, partSum, Ready};
+ghost use Rattle.mat_elem.specs.whole.Sums.{complex, turnedBy, plus, blockSum, MatElem};
 use crate::Found;
 use pauli::ComplexSign;
 
@@ -103,7 +103,7 @@ fn block_sum(
     last: usize,
 ) -> Complex
     requires { ⌜ PartOf first last (length (now x)) (length (now z)) (length (now re)) (length (now im)) ⌝ }
-    ensures { λ r. ⌜ r ≡ sumOver (λ i. leb first i) plus (complex (pos 0) (pos 0)) (termAt (now (x .entry)) (now (z .entry)) (now (re .entry)) (now (im .entry)) ket) last ⌝ }
+    ensures { λ r. ⌜ r ≡ partSum (lent x) (lent z) (lent re) (lent im) ket first last ⌝ }
     ensures { λ r. ⌜ Within sumMax r ⌝ }
 {
     let mut i = first;
@@ -116,6 +116,22 @@ fn block_sum(
     s
 }
 
+// The element between bra and ket, of terms that were tested: 0 where there is no block.
+pub(crate) fn pair_element(
+    x: &[u64],
+    z: &[u64],
+    re: &[i32],
+    im: &[i32],
+    bra: u64,
+    ket: u64,
+) -> Complex
+    requires { ⌜ Ready (now x) (length (now z)) (length (now re)) (length (now im)) ⌝ }
+    ensures { λ r. ⌜ r ≡ blockSum (lent x) (lent z) (lent re) (lent im) (bitXor bra ket) ket ⌝ }
+{
+    let p = crate::block(x, bra ^ ket);
+    block_sum(x, z, re, im, ket, p.first, p.last)
+}
+
 // The matrix element of the terms between bra and ket.
 pub fn mat_elem_cmpnts_from_presorted(
     n: usize,
@@ -126,7 +142,7 @@ pub fn mat_elem_cmpnts_from_presorted(
     bra: u64,
     ket: u64,
 ) -> Element
-    ensures { λ r. ⌜ MatElem n (now (x .entry)) (now (z .entry)) (now (re .entry)) (now (im .entry)) bra ket r ⌝ }
+    ensures { λ r. ⌜ MatElem n (lent x) (lent z) (lent re) (lent im) bra ket r ⌝ }
 {
     let found = crate::find_block(n, x, z, re.len(), im.len(), bra, ket);
     match found {

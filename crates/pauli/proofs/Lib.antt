@@ -10,4 +10,5 @@ pub mod OnQubits
 pub mod RowLaws
 pub mod RowTests
 pub mod Vectors
+pub mod Inner
 pub mod Meaning

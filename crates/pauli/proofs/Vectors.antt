@@ -22,10 +22,10 @@ pub ⊗-g0 : (u : Gauss) → u ⊗ g0 ≡ g0
 pub ⊗-g1 : (u : Gauss) → u ⊗ g1 ≡ u
 ⊗-g1 u = ⊗-comm u g1 ∙ g1-⊗ u
 
-⊕-g0 : (u : Gauss) → u ⊕ g0 ≡ u
+pub ⊕-g0 : (u : Gauss) → u ⊕ g0 ≡ u
 ⊕-g0 u = by-parts (+ℤ-idr (u .re)) (+ℤ-idr (u .im))
 
-g0-⊕ : (u : Gauss) → g0 ⊕ u ≡ u
+pub g0-⊕ : (u : Gauss) → g0 ⊕ u ≡ u
 g0-⊕ u = by-parts (+ℤ-idl (u .re)) (+ℤ-idl (u .im))
 
 -- ---- the state of a basis vector
@@ -60,7 +60,7 @@ sum-none : (n : ℕ) → sum n (λ s. g0) ≡ g0
 sum-none zero = refl
 sum-none (suc n) = ap₂ (λ (x y : Gauss). x ⊕ y) (sum-none n) (sum-none n)
 
-zeros : (n : ℕ) (f : List Bool → Gauss) → sum n (λ t. f t ⊗ g0) ≡ g0
+pub zeros : (n : ℕ) (f : List Bool → Gauss) → sum n (λ t. f t ⊗ g0) ≡ g0
 zeros n f = sum-ext n (λ t. f t ⊗ g0) (λ t. g0) (λ t. ⊗-g0 (f t)) ∙ sum-none n
 
 pub sum-basis : (n : ℕ) (f : List Bool → Gauss) (s : List Bool) → length s ≡ n → sum n (λ t. f t ⊗ basis s t) ≡ f s

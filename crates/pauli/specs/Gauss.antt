@@ -18,6 +18,10 @@ u ⊗ v = record { re = u .re *ℤ v .re -ℤ u .im *ℤ v .im; im = u .re *ℤ 
 abbrev pub minus : Gauss → Gauss
 minus u = record { re = negℤ (u .re); im = negℤ (u .im) }
 
+-- re - im i
+abbrev pub conj : Gauss → Gauss
+conj u = record { re = u .re; im = negℤ (u .im) }
+
 abbrev pub g0 : Gauss
 g0 = record { re = pos 0; im = pos 0 }
 

@@ -1,11 +1,11 @@
 -- RULES 2.1 and 2.2, "The Pauli matrices decide meaning (X = [[0,1],[1,0]], Y = [[0,-i],[i,0]], Z = diag(1,-1))": the matrices of Paulis and of rows on n
--- qubits, by their entries at basis states, sums and products of matrices, and what a matrix does to a basis vector. Assumes nothing.
+-- qubits, by their entries at basis states, sums and products of matrices, what a matrix does to a vector, and the inner product of vectors. Assumes nothing.
 use mathlib.Core.Bool.{Bool, true, false, cond, _&&_, Bool·beq}
 use mathlib.Core.List.{List, [], _∷_}
 use mathlib.Core.Path.{_≡_}
 use Prim.Native.Nat.{ℕ, zero, suc}
 use lib.ListN.{length}
-use Rattle.pauli.specs.Gauss.{Gauss, _⊕_, _⊗_, minus, g0, g1, gi, ipow}
+use Rattle.pauli.specs.Gauss.{Gauss, _⊕_, _⊗_, minus, conj, g0, g1, gi, ipow}
 use Rattle.pauli.specs.Pauli.{Pauli, I, X, Y, Z}
 use Rattle.pauli.specs.Row.{Row}
 
@@ -100,3 +100,7 @@ basis s r = cond (sameState s r) g1 g0
 -- a matrix applied to a vector on n qubits
 abbrev pub apply : ℕ → Matrix → Vector → Vector
 apply n A v r = sum n (λ s. A r s ⊗ v s)
+
+-- the inner product of two vectors on n qubits: the first one's entries conjugated
+abbrev pub inner : ℕ → Vector → Vector → Gauss
+inner n u v = sum n (λ s. conj (u s) ⊗ v s)

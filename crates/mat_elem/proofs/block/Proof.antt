@@ -3,12 +3,15 @@
 use borrow.Author.Needs.{needs}
 use native.Mathlib.Omega.{arith}
 use mathlib.Core.Path.{ap₂}
-use Prim.Native.Nat.{_-_}
+use Prim.Native.Nat.{ℕ, _-_}
 use lib.ListN.{length}
-use Rattle.mat_elem.specs.declared.Found.the-variants.{Block}
+use Rattle.mat_elem.specs.declared.Place.{Place}
 use Rattle.mat_elem.proofs.Places.{Run, run-none, run-more, run-stop, run-end}
 use Rattle.mat_elem.proofs.block.Statement.{statement}
 use Rattle.mat_elem.proofs.block.Tie as tie
+
+abbrev place : ℕ → ℕ → Place
+place first last = record { first = first; last = last }
 
 abbrev Inv-loop : tie.InvT-loop
 Inv-loop x t first last₀ last = Run x t last
@@ -28,7 +31,7 @@ returns : tie.Need-returns Inv-loop μ-loop
 returns c =
     let w = c .before .before .before in
     let s = w .before .before .before in
-    ap₂ Block (w .before .lower .ensures) (run-stop (s .args .x .now) (s .args .t) (s .pre) (w .loop .inv) (c .before .before .loop-test .taken) (c .if1 .taken))
+    ap₂ place (w .before .lower .ensures) (run-stop (s .args .x .now) (s .args .t) (s .pre) (w .loop .inv) (c .before .before .loop-test .taken) (c .if1 .taken))
 
 loop-again : tie.Need-loop-again Inv-loop μ-loop
 loop-again c =
@@ -40,7 +43,7 @@ returns-2 : tie.Need-returns-2 Inv-loop μ-loop
 returns-2 c =
     let w = c .before in
     let s = w .before .before .before in
-    ap₂ Block (w .before .lower .ensures) (run-end (s .args .x .now) (s .args .t) (s .pre) (w .loop .inv) (omega arith))
+    ap₂ place (w .before .lower .ensures) (run-end (s .args .x .now) (s .args .t) (s .pre) (w .loop .inv) (omega arith))
 
 pub block-spec : {M : Type 1} → statement M
 block-spec =

@@ -1,4 +1,3 @@
-use borrow.Author.Tests.{lt-ltb, le-ltb}
 use Rattle.encoding.specs.Refusals.{faultFrom}
 use Rattle.mat_elem.proofs.shape_fault.Statement.{statement}
 use Rattle.mat_elem.proofs.shape_fault.Tie as tie
@@ -9,15 +8,15 @@ returns c = simp (c .if1 .taken)
 
 returns-2 : tie.Need-returns-2
 unfolding faultFrom
-returns-2 c = simp (c .before .if1 .left, lt-ltb _ _ (c .if2 .taken))
+returns-2 c = simp (c .before .if1 .left, c .if2 .taken)
 
 returns-3 : tie.Need-returns-3
 unfolding faultFrom
-returns-3 c = simp (c .before .before .if1 .left, le-ltb _ _ (c .before .if2 .left), c .if3 .taken)
+returns-3 c = simp (c .before .before .if1 .left, c .before .if2 .left, c .if3 .taken)
 
 returns-4 : tie.Need-returns-4
 unfolding faultFrom
-returns-4 c = simp (c .before .before .if1 .left, le-ltb _ _ (c .before .if2 .left), c .if3 .left)
+returns-4 c = simp (c .before .before .if1 .left, c .before .if2 .left, c .if3 .left)
 
 pub shape-fault-spec : {M : Type 1} → statement M
 shape-fault-spec = tie.close (tie.spec returns returns-2 returns-3 returns-4)

@@ -58,7 +58,7 @@ module _ (xs zs : List ℕ) (re im : List ℤ) (ket : ℕ) (at : ℕ → Bool) w
   abbrev partial : ℕ → Complex
   partial n = sumOver at plus (complex (pos 0) (pos 0)) (termAt xs zs re im ket) n
 
-  same-sum : (n : ℕ) → gauss (partial n) ≡ sumOver at _⊕_ g0 (adds xs zs re im ket) n
+  pub same-sum : (n : ℕ) → gauss (partial n) ≡ sumOver at _⊕_ g0 (adds xs zs re im ket) n
   unfolding sumOver
   same-sum zero = refl
   same-sum (suc n) = go (at n) (same-sum n)

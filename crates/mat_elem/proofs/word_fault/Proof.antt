@@ -1,4 +1,4 @@
--- No loop: one pass over the terms, and bra and ket beside it, tell the lines 4 and 10 (`bits-seen`).
+-- No loop: one pass over the terms, and what was found beside them, tell the lines 4 and 10 (`bits-seen`).
 -- A bit at n or above is a word above the largest of n bits.
 use borrow.Author.Needs.{needs}
 use Rattle.encoding.specs.Refusals.{faultFrom}
@@ -11,7 +11,7 @@ unfolding faultFrom
 returns c =
     let l = c .before .before in
     let s = l .before .before .before .before in
-    rw (bits-seen (s .args .n) _ (s .pre .0) (l .before .top-word .ensures) (s .args .bra) (s .args .ket) (l .before .before .before .shared-slice-known .given) (l .before .before .shared-slice-known2 .given) (s .fits .bra .fits) (s .fits .ket .fits) (l .look .ensures), c .if1 .taken)
+    rw (bits-seen (s .args .n) _ (s .pre .0) (l .before .top-word .ensures) (s .args .beside) (l .before .before .before .shared-slice-known .given) (l .before .before .shared-slice-known2 .given) (l .look .ensures), c .if1 .taken)
 
 returns-2 : tie.Need-returns-2
 unfolding faultFrom
@@ -19,7 +19,7 @@ returns-2 c =
     let e = c .before in
     let l = e .before .before in
     let s = l .before .before .before .before in
-    rw (bits-seen (s .args .n) _ (s .pre .0) (l .before .top-word .ensures) (s .args .bra) (s .args .ket) (l .before .before .before .shared-slice-known .given) (l .before .before .shared-slice-known2 .given) (s .fits .bra .fits) (s .fits .ket .fits) (l .look .ensures), e .if1 .left, ← l .look .ensures .is-fell, c .if2 .taken)
+    rw (bits-seen (s .args .n) _ (s .pre .0) (l .before .top-word .ensures) (s .args .beside) (l .before .before .before .shared-slice-known .given) (l .before .before .shared-slice-known2 .given) (l .look .ensures), e .if1 .left, ← l .look .ensures .is-fell, c .if2 .taken)
 
 returns-3 : tie.Need-returns-3
 unfolding faultFrom
@@ -27,7 +27,7 @@ returns-3 c =
     let e = c .before in
     let l = e .before .before in
     let s = l .before .before .before .before in
-    rw (bits-seen (s .args .n) _ (s .pre .0) (l .before .top-word .ensures) (s .args .bra) (s .args .ket) (l .before .before .before .shared-slice-known .given) (l .before .before .shared-slice-known2 .given) (s .fits .bra .fits) (s .fits .ket .fits) (l .look .ensures), e .if1 .left, ← l .look .ensures .is-fell, c .if2 .left)
+    rw (bits-seen (s .args .n) _ (s .pre .0) (l .before .top-word .ensures) (s .args .beside) (l .before .before .before .shared-slice-known .given) (l .before .before .shared-slice-known2 .given) (l .look .ensures), e .if1 .left, ← l .look .ensures .is-fell, c .if2 .left)
 
 pub word-fault-spec : {M : Type 1} → statement M
 word-fault-spec = tie.close (tie.spec (λ c κs. search needs) (λ c κs. search needs) returns returns-2 returns-3)

@@ -1,0 +1,5 @@
+pub mod Laws
+pub mod Small
+pub mod Six
+pub mod Never
+pub mod Edges
