@@ -1,6 +1,6 @@
 // Sums, differences and products of i64, with the word on whether they fit; the complex products made of them; and a running sum over pairs.
 ghost use mathlib.Core.Path.{_≡_};
-ghost use mathlib.Core.Bool.{Bool, true, _&&_};
+ghost use mathlib.Core.Bool.{true, _&&_};
 ghost use lib.Signed.{ltZ};
 ghost use lib.IntN.{pos, natAbs, _+ℤ_, _-ℤ_, _*ℤ_};
 ghost use Rattle.checked.specs.Range.{gauss, within};

@@ -1,18 +1,19 @@
 -- A bit set at n or above: the word is above the largest of n bits. Assumes nothing.
 -- By halving: a bit set at n or above is a bit at n - 1 or above of the half, down to a word that is not 0.
-use mathlib.Core.Path.{_≡_, refl, sym, ap, ap₂, _∙_}
+use mathlib.Core.Path.{_≡_, refl, sym, ap, _∙_}
 use mathlib.Core.Bool.{Bool, true, false, _||_}
-use mathlib.Core.List.{List, [], _∷_}
+use mathlib.Core.List.{List, []}
 use Prim.Native.Nat.{ℕ, zero, suc, _/_, _^_, _≤_, _<_}
 use native.Mathlib.Nat.{pow-suc, le-of-suc-le-suc, not-suc-le-zero}
 use native.Mathlib.Omega.{arith}
 use borrow.Author.Tests.{leb-true, leb-false, le-leb, lt-leb}
 use lib.Arith.{lt-one}
+use lib.Bits.{bitOr}
 use lib.Dec.{leb, ltb}
 use lib.ListN.{length, getD, drop, drop-of-length-le}
 use Rattle.encoding.specs.Words.{odd, bit, bits}
 use Rattle.encoding.specs.Refusals.{some}
-use Rattle.encoding.proofs.Odd.{bit-odd}
+use Rattle.encoding.proofs.Odd.{bit-odd, or-odd, or-half}
 use Rattle.encoding.proofs.Scan.{none-of, some-none}
 use Rattle.encoding.proofs.WordLaws.{half-lt, length-bits, Fit}
 use Rattle.mat_elem.specs.Terms.{setFrom, badBits}
@@ -81,15 +82,42 @@ pub set-past : (n w : ℕ) → 64 ≤ n → false ≡ setFrom n w
 unfolding some
 set-past n w h = sym (ap (some (λ (b : Bool). b)) (past-bits n 64 w h))
 
+-- ---- a bit set in one of two words
+
+four : (p q r s : Bool) → ((p || q) || (r || s)) ≡ ((p || r) || (q || s))
+four true q r s = refl
+four false true true s = refl
+four false true false s = refl
+four false false r s = refl
+
+or-bits : (n d a b : ℕ) → some (λ (t : Bool). t) (drop n (bits d (bitOr a b))) ≡ (some (λ (t : Bool). t) (drop n (bits d a)) || some (λ (t : Bool). t) (drop n (bits d b)))
+unfolding some bits
+or-bits zero zero a b = refl
+or-bits zero (suc d) a b =
+    rw (or-odd a b, or-half a b, or-bits zero d (a / 2) (b / 2))
+    (four (odd a) (odd b) (some (λ (t : Bool). t) (bits d (a / 2))) (some (λ (t : Bool). t) (bits d (b / 2))))
+or-bits (suc n) zero a b = refl
+or-bits (suc n) (suc d) a b = rw (or-half a b) (or-bits n d (a / 2) (b / 2))
+
+pub set-or : (n a b : ℕ) → setFrom n (bitOr a b) ≡ (setFrom n a || setFrom n b)
+set-or n a b = or-bits n 64 a b
+
+no-bits : (n d : ℕ) → some (λ (t : Bool). t) (drop n (bits d 0)) ≡ false
+unfolding some bits
+no-bits zero zero = refl
+no-bits zero (suc d) = no-bits zero d
+no-bits (suc n) zero = refl
+no-bits (suc n) (suc d) = no-bits n d
+
+pub none-set : (n : ℕ) → setFrom n 0 ≡ false
+none-set n = no-bits n 64
+
+-- ---- by the largest word of n bits
+
 module _ (n top : ℕ) (l : n ≤ 64) (e : suc top ≡ 2 ^ n) where
   pub set-above : (w : ℕ) → w < 2 ^ 64 → setFrom n w ≡ ltb top w
   set-above w h = from n 64 w l h ∙ ap (λ (b : ℕ). leb b w) (sym e)
 
-  pub some-above : (ws : List ℕ) → Fit ws → some (setFrom n) ws ≡ some (λ w. ltb top w) ws
-  unfolding some
-  some-above [] f = refl
-  some-above (w ∷ ws) f = ap₂ _||_ (set-above w (f 0 .fits)) (some-above ws (λ k. f (suc k)))
-
-  -- the line 4, by what one pass over the terms found
-  pub bits-seen : {xs zs : List ℕ} (beside : Bool) {high fell : Bool} → Fit xs → Fit zs → Looked xs zs top high fell → badBits n xs zs beside ≡ (high || beside)
-  bits-seen {xs} {zs} beside fx fz s = rw (some-above xs fx, some-above zs fz, s .is-above)
+-- the line 4, by what one pass over the terms found
+pub bits-seen : (n : ℕ) {xs zs : List ℕ} (beside : Bool) {all : ℕ} {fell high : Bool} → Looked xs zs all fell → high ≡ setFrom n all → badBits n xs zs beside ≡ (high || beside)
+bits-seen n beside s e = ap (λ (b : Bool). b || beside) (sym (e ∙ s .is-above n))

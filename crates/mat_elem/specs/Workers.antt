@@ -11,7 +11,7 @@ use lib.IntN.{ℤ, pos, natAbs}
 use lib.ListN.{length, getD}
 use Rattle.pauli.specs.Gauss.{Gauss, g0}
 use Rattle.encoding.specs.Refusals.{fault, some, someBelow}
-use Rattle.mat_elem.specs.Terms.{maxTerms, badCount, tooMany, badLengths, badBits, falls, termTests}
+use Rattle.mat_elem.specs.Terms.{maxTerms, badCount, tooMany, badLengths, setFrom, badBits, falls, termTests}
 use Rattle.mat_elem.specs.Sums.{sumOver}
 use Rattle.checked.specs.Workers.{answer, checkedPair, plusChecked}
 use Rattle.checked.specs.declared.CheckedComplex.{CheckedComplex}
@@ -36,9 +36,9 @@ shapeTests n m z reals imags many unequal = badCount n ∷ (many || tooMany m) �
 abbrev pub wordTests : ℕ → List ℕ → List ℕ → Bool → List Bool
 wordTests n xs zs beside = badBits n xs zs beside ∷ false ∷ false ∷ false ∷ false ∷ false ∷ falls xs ∷ []
 
--- ---- one pass over the terms: words above the largest of n bits, and falls
-pub record Looked (xs zs : List ℕ) (top : ℕ) (above fell : Bool) : Type 0 where
-  pub is-above : above ≡ (some (λ w. ltb top w) xs || some (λ w. ltb top w) zs)
+-- ---- one pass over the terms: the bits set in some word, and falls
+pub record Looked (xs zs : List ℕ) (all : ℕ) (fell : Bool) : Type 0 where
+  pub is-above : (n : ℕ) → setFrom n all ≡ (some (setFrom n) xs || some (setFrom n) zs)
   pub is-fell : fell ≡ falls xs
 
 -- ---- where the block of t lies

@@ -1,7 +1,6 @@
 // Matrix elements with coefficients of two f64.
 ghost use mathlib.Core.Path.{_≡_};
-ghost use mathlib.Core.Bool.{Bool};
-ghost use Prim.Native.Nat.{ℕ, _<_};
+ghost use Prim.Native.Nat.{_<_};
 ghost use lib.Ieee.Scale as Scale;
 ghost use lib.ListN.{length};
 ghost use Rattle.mat_elem.specs.Lent.{lent};
@@ -29,7 +28,7 @@ fn finite(x: f64) -> bool
     ensures { λ r. ⌜ r ≡ Scale.finite x ⌝ }
 {
     let inf = 1.0f64 / 0.0;
-    if x < inf { -inf < x } else { false }
+    (x < inf) & (-inf < x)
 }
 
 fn both_finite(c: Complex) -> bool
@@ -69,23 +68,18 @@ fn step(s: Complex, re: f64, im: f64, k: ComplexSign) -> Complex
     add(s, turn(Complex { re, im }, k))
 }
 
-// Whether a coefficient is not finite, in any term: one pass.
+// Whether a coefficient is not finite, in any term: one pass with no way out.
 fn some_wild(re: &[f64], im: &[f64]) -> bool
     requires { ⌜ length (now im) ≡ length (now re) ⌝ }
     ensures { λ r. ⌜ r ≡ wild (lent re) (lent im) ⌝ }
 {
+    let mut bad = false;
     let mut i = 0;
     while i < re.len() {
-        let c = Complex {
-            re: re[i],
-            im: im[i],
-        };
-        if !both_finite(c) {
-            return true;
-        }
+        bad = bad | !finite(re[i]) | !finite(im[i]);
         i += 1;
     }
-    false
+    bad
 }
 
 // The sum of the terms from `first` up to, not including, `last`, or the refusal of a partial sum.

@@ -1,7 +1,7 @@
 // What the two editions of matrix elements share: the tests of the terms, the block's place among them, and the exponent of a term's action on the ket.
 ghost use mathlib.Core.Path.{_≡_};
-ghost use mathlib.Core.Bool.{Bool, false};
-ghost use Prim.Native.Nat.{ℕ, suc, _^_, _≤_};
+ghost use mathlib.Core.Bool.{false};
+ghost use Prim.Native.Nat.{suc, _^_, _<_};
 ghost use lib.ListN.{length};
 ghost use Rattle.encoding.specs.Refusals.{fault, faultFrom};
 ghost use Rattle.mat_elem.specs.Terms.{maxQubits, setFrom, falls, linesTo10};
@@ -58,14 +58,10 @@ fn shape_fault(
 
 // The largest word of n bits.
 fn top_word(n: usize) -> u64
-    requires { ⌜ n ≤ maxQubits ⌝ }
+    requires { ⌜ n < maxQubits ⌝ }
     ensures { λ r. ⌜ suc r ≡ 2 ^ n ⌝ }
 {
-    if n < MAX_QUBITS {
-        (1u64 << n) - 1
-    } else {
-        0xffff_ffff_ffff_ffff
-    }
+    (1u64 << n) - 1
 }
 
 // Whether a bit of w is set at n or above.
@@ -78,40 +74,39 @@ pub(crate) fn above(n: usize, w: u64) -> bool
     top_word(n) < w
 }
 
-// What one pass over the terms finds: a word above the largest, and a fall of X.
+// What one pass over the terms finds: the bits that are set in some word, and a fall of X. It has no way out, so that it is compiled for several
+// terms at once.
 struct Seen {
-    above: bool,
+    all: u64,
     falls: bool,
 }
 
-fn look(x: &[u64], z: &[u64], top: u64) -> Seen
+fn look(x: &[u64], z: &[u64]) -> Seen
     requires { ⌜ length (now z) ≡ length (now x) ⌝ }
-    ensures { λ r. ⌜ Looked (lent x) (lent z) top (r .above) (r .falls) ⌝ }
+    ensures { λ r. ⌜ Looked (lent x) (lent z) (r .all) (r .falls) ⌝ }
 {
-    let mut above = false;
+    let mut all: u64 = 0;
     let mut falls = false;
     let mut prev: u64 = 0;
     let mut i = 0;
     while i < x.len() {
         let w = x[i];
         let v = z[i];
-        above = above | (top < w) | (top < v);
+        all = all | w | v;
         falls = falls | (w < prev);
         prev = w;
         i += 1;
     }
-    Seen { above, falls }
+    Seen { all, falls }
 }
 
 // The lines 4 to 10.
 fn word_fault(n: usize, x: &[u64], z: &[u64], beside: bool) -> u8
-    requires { ⌜ n ≤ maxQubits ⌝ }
     requires { ⌜ length (now z) ≡ length (now x) ⌝ }
     ensures { λ r. ⌜ r ≡ faultFrom 4 (wordTests n (lent x) (lent z) beside) ⌝ }
 {
-    let top = top_word(n);
-    let seen = look(x, z, top);
-    if seen.above | beside {
+    let seen = look(x, z);
+    if above(n, seen.all) | beside {
         return 4;
     }
     if seen.falls {

@@ -1,7 +1,5 @@
 // Matrix elements with coefficients of two whole numbers.
 ghost use mathlib.Core.Path.{_≡_};
-ghost use mathlib.Core.Bool.{Bool};
-ghost use Prim.Native.Nat.{ℕ};
 ghost use lib.Bits.{bitXor};
 ghost use lib.IntN.{negℤ, _+ℤ_};
 ghost use lib.ListN.{length};

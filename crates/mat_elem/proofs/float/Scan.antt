@@ -1,7 +1,7 @@
 -- What is finite lies between the infinities; and one pass over the coefficients. Assumes nothing.
--- Invariant of the pass: the coefficients before i are finite, so what is still to come decides.
+-- Invariant of the pass: found so far, or found from i on; a step takes the heads off what is to come.
 use mathlib.Core.Path.{_≡_, refl, sym, _∙_}
-use mathlib.Core.Bool.{Bool, true, false, not, _||_, _&&_, false≢true, true≢false}
+use mathlib.Core.Bool.{Bool, true, false, not, _||_, _&&_, or-false}
 use mathlib.Core.List.{List}
 use Prim.Native.Nat.{ℕ, _+_, _<_, _≤_, zero-le}
 use native.Mathlib.Numerals.{add-one}
@@ -11,55 +11,33 @@ use lib.Ieee.Scale.{finite}
 use lib.ListN.{length, getD, drop, drop-of-length-le}
 use lib.Seq.{drop-cons}
 use Rattle.encoding.specs.Refusals.{some}
-use Rattle.mat_elem.specs.float.Sums.{wild, coefficient, bothFinite}
+use Rattle.mat_elem.specs.float.Sums.{wild}
+use Rattle.mat_elem.proofs.Pass.{found}
 
-pub below-inf : (x : Float) → lt x (inf false) ≡ true → lt (inf true) x ≡ finite x
+pub between : (x : Float) → (lt x (inf false) && lt (inf true) x) ≡ finite x
 unfolding lt
-below-inf nan e = refl
-below-inf (inf true) e = refl
-below-inf (inf false) e = absurd (false≢true e)
-below-inf (fin s m d) e = refl
+between nan = refl
+between (inf true) = refl
+between (inf false) = refl
+between (fin s m d) = refl
 
-pub not-below : (x : Float) → lt x (inf false) ≡ false → false ≡ finite x
-unfolding lt
-not-below nan e = refl
-not-below (inf s) e = refl
-not-below (fin s m d) e = sym e
-
--- ---- what is left of the coefficients says the same as the whole
-pub record Wilds (re im : List Float) (i : ℕ) : Type 0 where
+-- ---- what was found so far, or is found from i on, is what there is to find
+pub record Wilds (re im : List Float) (bad : Bool) (i : ℕ) : Type 0 where
   pub le : i ≤ length re
-  pub same : wild (drop i re) (drop i im) ≡ wild re im
-
-hit : (a b r s : Bool) → (a && b) ≡ false → (not a || r || (not b || s)) ≡ true
-hit true true r s e = absurd (true≢false e)
-hit true false true s e = refl
-hit true false false s e = refl
-hit false b r s e = refl
-
-pass : (a b r s : Bool) → (a && b) ≡ true → (not a || r || (not b || s)) ≡ (r || s)
-pass true true r s e = refl
-pass true false r s e = absurd (false≢true e)
-pass false b r s e = absurd (false≢true e)
+  pub same : (bad || wild (drop i re) (drop i im)) ≡ wild re im
 
 module _ (re im : List Float) (long : length im ≡ length re) where
-  pub wild-none : Wilds re im 0
+  pub wild-none : Wilds re im false 0
   wild-none = record { le = zero-le; same = refl }
 
-  pub wild-hit : {i : ℕ} → Wilds re im i → i < length re → bothFinite (coefficient re im i) ≡ false → true ≡ wild re im
+  pub wild-more : {bad : Bool} {i : ℕ} → Wilds re im bad i → i < length re → {p q : Bool} → p ≡ finite (getD re i nan) → q ≡ finite (getD im i nan) → Wilds re im (bad || not p || not q) (i + 1)
   unfolding some
-  wild-hit {i} w h e =
+  wild-more {bad} {i} w h e f =
       let k : i < length im = omega arith in
-      sym (hit (finite (getD re i nan)) (finite (getD im i nan)) _ _ e) ∙ (rw (drop-cons re i nan, drop-cons im i nan) at (w .same))
+      record { le = omega arith; same = rw (add-one, e, f) (found bad (not (finite (getD re i nan))) (not (finite (getD im i nan))) _ _ ∙ (rw (drop-cons re i nan, drop-cons im i nan) at (w .same))) }
 
-  pub wild-more : {i : ℕ} → Wilds re im i → i < length re → bothFinite (coefficient re im i) ≡ true → Wilds re im (i + 1)
+  pub wild-all : {bad : Bool} {i : ℕ} → Wilds re im bad i → length re ≤ i → bad ≡ wild re im
   unfolding some
-  wild-more {i} w h e =
-      let k : i < length im = omega arith in
-      record { le = omega arith; same = rw add-one (sym (pass (finite (getD re i nan)) (finite (getD im i nan)) _ _ e) ∙ (rw (drop-cons re i nan, drop-cons im i nan) at (w .same))) }
-
-  pub wild-all : {i : ℕ} → Wilds re im i → length re ≤ i → false ≡ wild re im
-  unfolding some
-  wild-all {i} w h =
+  wild-all {bad} {i} w h =
       let k : length im ≤ i = omega arith in
-      rw (drop-of-length-le re h, drop-of-length-le im k) at (w .same)
+      sym (or-false bad) ∙ (rw (drop-of-length-le re h, drop-of-length-le im k) at (w .same))

@@ -9,24 +9,24 @@ use Rattle.mat_elem.proofs.look.Statement.{statement}
 use Rattle.mat_elem.proofs.look.Tie as tie
 
 abbrev Inv-loop : tie.InvT-loop
-Inv-loop x z top above₀ falls₀ prev₀ i₀ above falls prev i = Looking x z top above falls prev i
+Inv-loop x z all₀ falls₀ prev₀ i₀ all falls prev i = Looking x z all falls prev i
 
 abbrev μ-loop : tie.MeasureT-loop
-μ-loop x z top above₀ falls₀ prev₀ i₀ above falls prev i = length x - i
+μ-loop x z all₀ falls₀ prev₀ i₀ all falls prev i = length x - i
 
 loop-holds : tie.Need-loop-holds Inv-loop μ-loop
-loop-holds c = look-none (c .args .x .now) (c .args .z .now) (c .args .top) (c .pre)
+loop-holds c = look-none (c .args .x .now) (c .args .z .now) (c .pre)
 
 loop-again : tie.Need-loop-again Inv-loop μ-loop
 loop-again c =
     let w = c .before .before .before in
     let s = w .before in
-    look-more (s .args .x .now) (s .args .z .now) (s .args .top) (s .pre) (w .loop .inv) (omega arith)
+    look-more (s .args .x .now) (s .args .z .now) (s .pre) (w .loop .inv) (omega arith)
 
 returns : tie.Need-returns Inv-loop μ-loop
 returns c =
     let w = c .before in
-    look-all (w .before .args .x .now) (w .before .args .z .now) (w .before .args .top) (w .before .pre) (w .loop .inv) (omega arith)
+    look-all (w .before .args .x .now) (w .before .args .z .now) (w .before .pre) (w .loop .inv) (omega arith)
 
 pub look-spec : {M : Type 1} → statement M
 look-spec =

@@ -18,7 +18,7 @@ word-fault-requires c κs =
     let f = c .before in
     let a = f .before .before .before .args in
     let s = shape-sound (a .n) (length (a .x .now)) (length (a .z .now)) (a .reals) (a .imags) (a .many) (a .unequal) (sym (f .shape-fault .ensures) ∙ c .if1 .left) in
-    (s .shape .most, s .shape .z-long)
+    s .shape .z-long
 
 returns-2 : tie.Need-returns-2
 returns-2 c =

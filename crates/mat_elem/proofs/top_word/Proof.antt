@@ -1,5 +1,4 @@
-use Prim.Native.Nat.{ℕ, _^_, _<_}
-use mathlib.Core.Path.{_≡_, ap}
+use Prim.Native.Nat.{_^_, _<_}
 use native.Mathlib.Omega.{arith}
 use lib.Pow.{pow-lt, pow-pos}
 use borrow.Author.Needs.{needs}
@@ -8,18 +7,13 @@ use Rattle.mat_elem.proofs.top_word.Tie as tie
 
 sub-result : tie.Need-sub-result
 sub-result c =
-    let h : 2 ^ c .before .args .n < 2 ^ 64 = pow-lt (c .if1 .taken) in
-    omega (arith, pow-pos (c .before .args .n))
+    let h : 2 ^ c .args .n < 2 ^ 64 = pow-lt (c .pre) in
+    omega (arith, pow-pos (c .args .n))
 
 returns : tie.Need-returns
 returns c =
-    let h : 2 ^ c .before .args .n < 2 ^ 64 = pow-lt (c .if1 .taken) in
-    omega (arith, pow-pos (c .before .args .n))
-
-returns-2 : tie.Need-returns-2
-returns-2 c =
-    let e : 64 ≡ c .before .args .n = omega arith in
-    ap (λ (k : ℕ). 2 ^ k) e
+    let h : 2 ^ c .args .n < 2 ^ 64 = pow-lt (c .pre) in
+    omega (arith, pow-pos (c .args .n))
 
 pub top-word-spec : {M : Type 1} → statement M
-top-word-spec = tie.close (tie.spec (λ c. search needs) sub-result returns returns-2)
+top-word-spec = tie.close (tie.spec (λ c. search needs) sub-result returns)

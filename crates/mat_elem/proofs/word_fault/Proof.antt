@@ -1,5 +1,5 @@
 -- No loop: one pass over the terms, and what was found beside them, tell the lines 4 and 10 (`bits-seen`).
--- A bit at n or above is a word above the largest of n bits.
+-- A bit at n or above in some word is one in all words' bits put together.
 use borrow.Author.Needs.{needs}
 use Rattle.encoding.specs.Refusals.{faultFrom}
 use Rattle.mat_elem.proofs.Bits.{bits-seen}
@@ -10,24 +10,24 @@ returns : tie.Need-returns
 unfolding faultFrom
 returns c =
     let l = c .before .before in
-    let s = l .before .before .before .before in
-    rw (bits-seen (s .args .n) _ (s .pre .0) (l .before .top-word .ensures) (s .args .beside) (l .before .before .before .shared-slice-known .given) (l .before .before .shared-slice-known2 .given) (l .look .ensures), c .if1 .taken)
+    let s = l .before .before .before in
+    rw (bits-seen (s .args .n) (s .args .beside) (l .look .ensures) (c .before .above .ensures), c .if1 .taken)
 
 returns-2 : tie.Need-returns-2
 unfolding faultFrom
 returns-2 c =
     let e = c .before in
     let l = e .before .before in
-    let s = l .before .before .before .before in
-    rw (bits-seen (s .args .n) _ (s .pre .0) (l .before .top-word .ensures) (s .args .beside) (l .before .before .before .shared-slice-known .given) (l .before .before .shared-slice-known2 .given) (l .look .ensures), e .if1 .left, ← l .look .ensures .is-fell, c .if2 .taken)
+    let s = l .before .before .before in
+    rw (bits-seen (s .args .n) (s .args .beside) (l .look .ensures) (e .before .above .ensures), e .if1 .left, ← l .look .ensures .is-fell, c .if2 .taken)
 
 returns-3 : tie.Need-returns-3
 unfolding faultFrom
 returns-3 c =
     let e = c .before in
     let l = e .before .before in
-    let s = l .before .before .before .before in
-    rw (bits-seen (s .args .n) _ (s .pre .0) (l .before .top-word .ensures) (s .args .beside) (l .before .before .before .shared-slice-known .given) (l .before .before .shared-slice-known2 .given) (l .look .ensures), e .if1 .left, ← l .look .ensures .is-fell, c .if2 .left)
+    let s = l .before .before .before in
+    rw (bits-seen (s .args .n) (s .args .beside) (l .look .ensures) (e .before .above .ensures), e .if1 .left, ← l .look .ensures .is-fell, c .if2 .left)
 
 pub word-fault-spec : {M : Type 1} → statement M
 word-fault-spec = tie.close (tie.spec (λ c κs. search needs) (λ c κs. search needs) returns returns-2 returns-3)
