@@ -26,12 +26,12 @@ use oracle::container::coeffs::complex_sign::ComplexSign;
 use oracle::container::traits::{Elements, RefElements};
 use oracle::container::word_iters::WordIters;
 use oracle::qubit::mode::Qubits;
-use oracle::qubit::pauli::cmpnt_major::mat_elem::mat_elem_cmpnts_from_presorted;
+use oracle::qubit::pauli::cmpnt_major::mat_elem::{mat_elem_cmpnts_from_presorted, mat_elem_from_presorted};
 use oracle::qubit::pauli::cmpnt_major::terms::{AsViewMut, Terms};
 use oracle::qubit::state::cmpnt_list::CmpntList as StateList;
 
 use random::Random;
-use rows::{Operator, Set};
+use rows::{Operator, Set, States, WholeOperator};
 use table::{line, side, time, FEW_RUNS, RUNS};
 
 const QUBITS: usize = 1024;
@@ -71,6 +71,9 @@ fn times() {
     reduction(&Set::random(&mut random, QUBITS, 256));
     for block in [TERMS, 16] {
         element(&mut random, block);
+    }
+    for block in [1, 16] {
+        states(&mut random, block);
     }
 }
 
@@ -286,6 +289,31 @@ fn element(random: &mut Random, block: usize) {
         RUNS,
         side(calls, || time(|| (0..calls).for_each(|_| assert_eq!(ours::mat_elem(black_box(&op), bra, ket).0, 0)))),
         side(rust_calls, || time(|| (0..rust_calls).for_each(|_| _ = black_box(rust())))),
+        vec![],
+    );
+}
+
+/// The sum over all pairs of 256 bras and 256 kets; every pair has a block.
+fn states(random: &mut Random, block: usize) {
+    let name = "mat_elem_from_presorted";
+    let op = WholeOperator::random(random, TERMS, block);
+    let (terms, blocks) = op.terms();
+    let kinds = TERMS / block;
+    let mut words = |step: usize| (0..256).map(|i| (i * step % kinds) as u64).collect::<Vec<_>>();
+    let (bra, ket) = (words((kinds / 256).max(1)), words(1));
+    let (bra, ket) = (States::random(random, bra), States::random(random, ket));
+    let (bras, kets) = (bra.terms(op.n), ket.terms(op.n));
+    let rust = || mat_elem_from_presorted(black_box(&terms), black_box(&blocks), black_box(&bras), black_box(&kets));
+    let (code, re, im) = ours::mat_elem_of_states(&op, &bra, &ket);
+    assert_eq!(code, 0);
+    let sum = rust();
+    agree(name, format!("{re} {im}"), format!("{} {}", sum.re, sum.im));
+    line(
+        name,
+        &format!("65536 pairs, {TERMS} terms, {block} in a block"),
+        RUNS,
+        side(1, || time(|| assert_eq!(ours::mat_elem_of_states(black_box(&op), &bra, &ket).0, 0))),
+        side(1, || time(|| _ = black_box(rust()))),
         vec![],
     );
 }

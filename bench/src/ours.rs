@@ -1,7 +1,7 @@
 //! The functions that the crate `speed` exports. A slice is passed as a pointer and a length; the number that comes
 //! back is 0 for done, else the refusal's.
 
-use crate::rows::{Operator, Set};
+use crate::rows::{Operator, Set, States, WholeOperator};
 
 extern "C" {
     fn speed_compatibility_matrix(
@@ -106,6 +106,32 @@ extern "C" {
         ket: u64,
         real: *mut f64,
         imag: *mut f64,
+    ) -> u8;
+
+    fn speed_mat_elem_from_presorted(
+        n: usize,
+        x: *const u64,
+        x_len: usize,
+        z: *const u64,
+        z_len: usize,
+        re: *const i32,
+        re_len: usize,
+        im: *const i32,
+        im_len: usize,
+        bras: *const u64,
+        bras_len: usize,
+        bre: *const i32,
+        bre_len: usize,
+        bim: *const i32,
+        bim_len: usize,
+        kets: *const u64,
+        kets_len: usize,
+        kre: *const i32,
+        kre_len: usize,
+        kim: *const i32,
+        kim_len: usize,
+        real: *mut i64,
+        imag: *mut i64,
     ) -> u8;
 }
 
@@ -255,6 +281,39 @@ pub fn mat_elem(op: &Operator, bra: u64, ket: u64) -> (u8, f64, f64) {
             op.im.len(),
             bra,
             ket,
+            &mut re,
+            &mut im,
+        )
+    };
+    (code, re, im)
+}
+
+/// The number, and the real and imaginary part of the sum over all pairs.
+pub fn mat_elem_of_states(op: &WholeOperator, bra: &States, ket: &States) -> (u8, i64, i64) {
+    let (mut re, mut im) = (0, 0);
+    let code = unsafe {
+        speed_mat_elem_from_presorted(
+            op.n,
+            op.x.as_ptr(),
+            op.x.len(),
+            op.z.as_ptr(),
+            op.z.len(),
+            op.re.as_ptr(),
+            op.re.len(),
+            op.im.as_ptr(),
+            op.im.len(),
+            bra.words.as_ptr(),
+            bra.words.len(),
+            bra.re.as_ptr(),
+            bra.re.len(),
+            bra.im.as_ptr(),
+            bra.im.len(),
+            ket.words.as_ptr(),
+            ket.words.len(),
+            ket.re.as_ptr(),
+            ket.re.len(),
+            ket.im.as_ptr(),
+            ket.im.len(),
             &mut re,
             &mut im,
         )

@@ -5,7 +5,10 @@ use std::collections::HashMap;
 use num_complex::Complex64;
 use oracle::container::coeffs::complex_sign::{ComplexSign, ComplexSignVec};
 use oracle::container::coeffs::traits::NumReprVec;
+use oracle::qubit::mode::Qubits;
 use oracle::qubit::pauli::cmpnt_major::terms::Terms;
+use oracle::qubit::state::cmpnt_list::CmpntList as StateList;
+use oracle::qubit::state::terms::Terms as StateTerms;
 
 use crate::fields::rows;
 use crate::random::Random;
@@ -65,5 +68,60 @@ impl Operator {
             blocks.entry(*word).or_insert(i);
         });
         (Terms::from((rows(self.n, self.x.len(), &self.x, &self.z), coeffs)), blocks)
+    }
+}
+
+fn complex(re: &[i32], im: &[i32]) -> Vec<Complex64> {
+    re.iter().zip(im).map(|(re, im)| Complex64::new(*re as f64, *im as f64)).collect()
+}
+
+/// Whole numbers from -100 to 100.
+fn parts(random: &mut Random, count: usize) -> Vec<i32> {
+    (0..count).map(|_| (random.word() % 201) as i32 - 100).collect()
+}
+
+/// Terms with whole coefficients.
+pub struct WholeOperator {
+    pub n: usize,
+    pub x: Vec<u64>,
+    pub z: Vec<u64>,
+    pub re: Vec<i32>,
+    pub im: Vec<i32>,
+}
+
+impl WholeOperator {
+    /// Terms of 64 qubits whose X words are the first numbers, `block` terms each.
+    pub fn random(random: &mut Random, terms: usize, block: usize) -> Self {
+        let x = (0..terms).map(|i| (i / block) as u64).collect();
+        let z = (0..terms).map(|_| random.word()).collect();
+        Self { n: 64, x, z, re: parts(random, terms), im: parts(random, terms) }
+    }
+
+    pub fn terms(&self) -> (Terms<Complex64>, HashMap<u64, usize>) {
+        let mut blocks = HashMap::new();
+        self.x.iter().enumerate().for_each(|(i, word)| {
+            blocks.entry(*word).or_insert(i);
+        });
+        (Terms::from((rows(self.n, self.x.len(), &self.x, &self.z), complex(&self.re, &self.im))), blocks)
+    }
+}
+
+/// Basis states with whole coefficients.
+pub struct States {
+    pub words: Vec<u64>,
+    pub re: Vec<i32>,
+    pub im: Vec<i32>,
+}
+
+impl States {
+    pub fn random(random: &mut Random, words: Vec<u64>) -> Self {
+        let count = words.len();
+        Self { words, re: parts(random, count), im: parts(random, count) }
+    }
+
+    pub fn terms(&self, n: usize) -> StateTerms<Complex64> {
+        let mut list = StateList::new(Qubits::from_count(n));
+        self.words.iter().for_each(|word| list.push_u64it([*word].into_iter()));
+        StateTerms::from((list, complex(&self.re, &self.im)))
     }
 }

@@ -3,6 +3,7 @@
 use mathlib.Core.Path.{_≡_}
 use Prim.Native.Nat.{ℕ}
 use lib.Ieee.{Float}
+use lib.IntN.{ℤ}
 use Rattle.encoding.specs.declared.Answer.{Answer}
 use Rattle.encoding.specs.declared.Answer.the-variants as answer
 use Rattle.cmpnt_list.specs.declared.Phase.{Phase}
@@ -20,6 +21,8 @@ use Rattle.replay.specs.declared.Verdict.{Verdict}
 use Rattle.replay.specs.declared.Verdict.the-variants as verdict
 use Rattle.mat_elem.specs.declared.float.Element.{Element}
 use Rattle.mat_elem.specs.declared.float.Element.the-variants as element
+use Rattle.mat_elem.specs.declared.states.Total.{Total}
+use Rattle.mat_elem.specs.declared.states.Total.the-variants as total
 
 -- what the call's own contract says, of the answer that the caller sees
 pub record Told {A : Type 0} (Call Seen : A → Type 0) : Type 0 where
@@ -157,3 +160,22 @@ pub record Parted (re im re′ im′ : Float) (r : ℕ) (a : Element) : Type 0 w
   pub number : r ≡ elementNumber a
   pub real : re′ ≡ realOr re a
   pub imag : im′ ≡ imagOr im a
+
+-- ---- a sum over pairs: the whole numbers of the sum; they stay as they were where there is none
+
+abbrev pub totalNumber : Total → ℕ
+totalNumber (total.Sum re im) = 0
+totalNumber (total.Refused k) = k
+
+abbrev pub totalReal : ℤ → Total → ℤ
+totalReal old (total.Sum re im) = re
+totalReal old (total.Refused k) = old
+
+abbrev pub totalImag : ℤ → Total → ℤ
+totalImag old (total.Sum re im) = im
+totalImag old (total.Refused k) = old
+
+pub record Totalled (re im re′ im′ : ℤ) (r : ℕ) (a : Total) : Type 0 where
+  pub number : r ≡ totalNumber a
+  pub real : re′ ≡ totalReal re a
+  pub imag : im′ ≡ totalImag im a

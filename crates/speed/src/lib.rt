@@ -6,10 +6,14 @@ ghost use Rattle.terms.specs.Calls.{Multiplies, ReducesAll, reducedNumber};
 ghost use Rattle.replay.specs.Check.{task, claim};
 ghost use Rattle.replay.specs.Undo.{Undoes};
 ghost use Rattle.mat_elem.specs.float.Product.{MatElem};
+ghost use Rattle.mat_elem.specs.Lent.{termsLent, stateLent};
+ghost use Rattle.mat_elem.specs.states.Vectors as states;
 ghost use Rattle.speed.specs.Told.{Told, Number, numberOf, Phased, Exactly, phaseNumber, exponentOr, productNumber, clashesOr, Multiplied, Counted, entriesOr, pivotsOr, verdictNumber, placeOr, Placed, CheckedOn, undoneNumber, entryOr, WalkedTo, Parted, elementNumber, realOr, imagOr};
+ghost use Rattle.speed.specs.Told.{Totalled, totalNumber, totalReal, totalImag};
 use cmpnt_list::Phase;
 use encoding::Answer;
 use mat_elem::float::Element;
+use mat_elem::states::Total;
 use pauli::RowNumber;
 use replay::Undone;
 use replay::Verdict;
@@ -317,5 +321,60 @@ pub extern "C" fn speed_mat_elem_cmpnts_from_presorted(
     let p = parted(a, *real, *imag);
     *real = p.re;
     *imag = p.im;
+    p.number
+}
+
+struct Wholes {
+    number: u8,
+    re: i64,
+    im: i64,
+}
+
+// What is seen of a sum over pairs, with the parts that stay where there is none.
+fn totalled(a: Total, re: i64, im: i64) -> Wholes
+    ensures { λ r. ⌜ (r .number ≡ totalNumber a) × (r .re ≡ totalReal re a) × (r .im ≡ totalImag im a) ⌝ }
+{
+    match a {
+        Total::Sum(re, im) => Wholes { number: 0, re, im },
+        Total::Refused(k) => Wholes { number: k, re, im },
+    }
+}
+
+#[no_mangle]
+pub extern "C" fn speed_mat_elem_from_presorted(
+    n: usize,
+    x: &[u64],
+    z: &[u64],
+    re: &[i32],
+    im: &[i32],
+    bras: &[u64],
+    bre: &[i32],
+    bim: &[i32],
+    kets: &[u64],
+    kre: &[i32],
+    kim: &[i32],
+    real: &mut i64,
+    imag: &mut i64,
+) -> u8
+    ensures { λ r. ⌜ Told (states.MatElem n (termsLent x z re im) (stateLent bras bre bim) (stateLent kets kre kim)) (Totalled (now (real .entry)) (now (imag .entry)) (now (real .exit)) (now (imag .exit)) r) ⌝ }
+{
+    let a = mat_elem::states::mat_elem_from_presorted(
+        n,
+        x,
+        z,
+        re,
+        im,
+        bras,
+        bre,
+        bim,
+        kets,
+        kre,
+        kim,
+    );
+    let p = totalled(a, *real, *imag);
+    let r = p.re;
+    let i = p.im;
+    *real = r;
+    *imag = i;
     p.number
 }

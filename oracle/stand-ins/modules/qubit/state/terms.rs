@@ -1,4 +1,4 @@
-//! Stand-in: lists of basis states with coefficients; only compiled.
+//! Stand-in: lists of basis states with coefficients.
 
 use crate::container::coeffs::traits::NumRepr;
 use crate::container::traits::EmptyFrom;
