@@ -44,7 +44,20 @@ fn main() {
     match std::env::args().nth(1).as_deref() {
         Some("--limits") => limits::run(),
         Some("--matrix-edges") => edges(),
+        Some("--states") => pairs_alone(),
         _ => times(),
+    }
+}
+
+fn pairs_alone() {
+    let mut random = Random::of(1, 0);
+    table::header(&format!("{RUNS} runs of each side"));
+    many_states(&mut random);
+}
+
+fn many_states(random: &mut Random) {
+    for block in [1, 16] {
+        states(random, block);
     }
 }
 
@@ -72,9 +85,7 @@ fn times() {
     for block in [TERMS, 16] {
         element(&mut random, block);
     }
-    for block in [1, 16] {
-        states(&mut random, block);
-    }
+    many_states(&mut random);
 }
 
 /// The matrix of m rows of 65 qubits by ours, by the Rust, by the model qubit by qubit, and by C.
@@ -299,7 +310,7 @@ fn states(random: &mut Random, block: usize) {
     let op = WholeOperator::random(random, TERMS, block);
     let (terms, blocks) = op.terms();
     let kinds = TERMS / block;
-    let mut words = |step: usize| (0..256).map(|i| (i * step % kinds) as u64).collect::<Vec<_>>();
+    let words = |step: usize| (0..256).map(|i| (i * step % kinds) as u64).collect::<Vec<_>>();
     let (bra, ket) = (words((kinds / 256).max(1)), words(1));
     let (bra, ket) = (States::random(random, bra), States::random(random, ket));
     let (bras, kets) = (bra.terms(op.n), ket.terms(op.n));

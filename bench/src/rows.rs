@@ -5,6 +5,7 @@ use std::collections::HashMap;
 use num_complex::Complex64;
 use oracle::container::coeffs::complex_sign::{ComplexSign, ComplexSignVec};
 use oracle::container::coeffs::traits::NumReprVec;
+use oracle::container::word_iters::WordIters;
 use oracle::qubit::mode::Qubits;
 use oracle::qubit::pauli::cmpnt_major::terms::Terms;
 use oracle::qubit::state::cmpnt_list::CmpntList as StateList;
