@@ -132,9 +132,14 @@ fn faults_of(out: &[u8]) -> Vec<String> {
 
 /// Whether the Rust has something to say to a case that the model answers so: all that is not refused, refusals 8 and
 /// 12, which arise in the work, and of the checker the rows of a full replay.
-pub fn rust_answers(model: &str) -> bool {
+pub fn rust_answers(line: &str, model: &str) -> bool {
     let works = model.starts_with("ok ") || model == "none" || model.starts_with("refuse 8 ") || model == "refuse 12";
-    works && !model.starts_with("ok bad ")
+    works && !model.starts_with("ok bad ") && !beyond_floats(line)
+}
+
+/// The Rust has no whole numbers: of states it is asked where its floats hold every number on the way.
+fn beyond_floats(line: &str) -> bool {
+    line.starts_with("elems ") && !parsed(line).is_some_and(|case| model::exact_in_floats(&case))
 }
 
 /// Whether an answer agrees with the Rust's.
@@ -220,7 +225,7 @@ impl Run {
     fn rust_column(&mut self, programs: &Programs, lines: &[String], model: &[String]) -> Vec<Option<String>> {
         let mut out = vec![None; lines.len()];
         if let Some(program) = &programs.oracle {
-            let places: Vec<usize> = (0..lines.len()).filter(|i| rust_answers(&model[*i])).collect();
+            let places: Vec<usize> = (0..lines.len()).filter(|i| rust_answers(&lines[*i], &model[*i])).collect();
             let chosen: Vec<&str> = places.iter().map(|i| lines[*i].as_str()).collect();
             let answers = self.answers(program, &chosen);
             places.iter().zip(answers).for_each(|(i, answer)| out[*i] = Some(answer));

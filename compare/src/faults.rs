@@ -1,7 +1,7 @@
 //! What makes a call one to be refused. Each fault is one change to a call that has none, so that refusals can be
 //! asked for alone and in pairs.
 
-use crate::limits::{QUBITS, ROWS, WORDS_IN_REACH};
+use crate::limits::{QUBITS, ROWS, VECTORS, WORDS_IN_REACH};
 use crate::line::{Case, Field};
 use crate::random::Random;
 use crate::reduction::{reduce, Lists};
@@ -15,8 +15,9 @@ pub type Fault = fn(&mut Case, &mut Random) -> bool;
 pub fn of_call(call: &str) -> Vec<(u8, Fault)> {
     match call {
         "phase1" | "act1" => vec![],
-        "elemf" => [TERMS, FLOATS].concat(),
-        "elemi" => TERMS.to_vec(),
+        "elemf" => [TERMS, BRA_AND_KET, FLOATS].concat(),
+        "elemi" => [TERMS, BRA_AND_KET].concat(),
+        "elems" => [TERMS, STATES].concat(),
         "pair" | "check" => [SETS, SECOND, own(call)].concat(),
         _ => [SETS, own(call)].concat(),
     }
@@ -58,10 +59,22 @@ const TERMS: &[(u8, Fault)] = &[
     (3, im_shorter),
     (4, spare_in_last_x),
     (4, spare_in_a_z),
-    (4, spare_in_bra),
-    (4, spare_in_ket),
     (10, x_falls),
     (10, x_falls_at_end),
+];
+
+const BRA_AND_KET: &[(u8, Fault)] = &[(4, spare_in_bra), (4, spare_in_ket)];
+
+const STATES: &[(u8, Fault)] = &[
+    (2, bras_above_limit),
+    (2, kets_above_limit),
+    (3, bra_re_longer),
+    (3, bra_im_shorter),
+    (3, ket_re_shorter),
+    (3, ket_im_longer),
+    (4, spare_in_bras),
+    (4, spare_in_kets),
+    (16, all_least),
 ];
 
 const FLOATS: &[(u8, Fault)] = &[(11, not_finite_re), (11, not_finite_im), (12, sum_too_large)];
@@ -164,6 +177,69 @@ fn longer(list: &mut Vec<u64>) -> bool {
 
 fn shorter(list: &mut Vec<u64>) -> bool {
     list.pop().is_some()
+}
+
+fn ints(case: &mut Case, i: usize) -> &mut Vec<i32> {
+    match &mut case.fields[i] {
+        Field::Ints(v) => v,
+        _ => unreachable!("field {i} of {}", case.call),
+    }
+}
+
+// ---- states of many basis vectors
+
+/// One word more than the limit, with parts to match.
+fn above_limit(case: &mut Case, at: usize) -> bool {
+    words(case, at).resize(VECTORS + 1, 0);
+    ints(case, at + 1).resize(VECTORS + 1, 0);
+    ints(case, at + 2).resize(VECTORS + 1, 0);
+    true
+}
+
+fn bras_above_limit(case: &mut Case, _: &mut Random) -> bool {
+    above_limit(case, 5)
+}
+
+fn kets_above_limit(case: &mut Case, _: &mut Random) -> bool {
+    above_limit(case, 8)
+}
+
+fn bra_re_longer(case: &mut Case, _: &mut Random) -> bool {
+    ints(case, 6).push(1);
+    true
+}
+
+fn bra_im_shorter(case: &mut Case, _: &mut Random) -> bool {
+    ints(case, 7).pop().is_some()
+}
+
+fn ket_re_shorter(case: &mut Case, _: &mut Random) -> bool {
+    ints(case, 9).pop().is_some()
+}
+
+fn ket_im_longer(case: &mut Case, _: &mut Random) -> bool {
+    ints(case, 10).push(1);
+    true
+}
+
+fn spare_in_bras(case: &mut Case, random: &mut Random) -> bool {
+    let n = n_of(case);
+    n < 64 && spare_bit(words(case, 5), n, random)
+}
+
+fn spare_in_kets(case: &mut Case, random: &mut Random) -> bool {
+    let n = n_of(case);
+    n < 64 && spare_bit(words(case, 8), n, random)
+}
+
+/// The first pair's four parts are the least i32: its first real sum leaves i64.
+fn all_least(case: &mut Case, _: &mut Random) -> bool {
+    let lists = [6, 7, 9, 10];
+    let there = lists.iter().all(|i| !case.ints(*i).is_empty()) && [5, 8].iter().all(|i| !case.words(*i).is_empty());
+    if there {
+        lists.iter().for_each(|i| ints(case, *i)[0] = i32::MIN);
+    }
+    there
 }
 
 // ---- 1

@@ -7,14 +7,15 @@ use crate::model;
 use crate::random::Random;
 use crate::rows::{packed, words_for, Pauli, Row, Set};
 use crate::small::{over_sets, plain_terms, singles_and_pairs};
-use crate::{engines, forms, malformed, undoing, valid};
+use crate::{engines, forms, malformed, states, undoing, valid};
 
 /// Writes the list and its answers; the number of cases where Rust and model differ, and of the Rust's faults.
 pub fn write(oracle: Option<Vec<String>>, cases: &str, answers: &str) -> usize {
     let lines = list();
     let asked_for: Vec<&str> = lines.iter().map(String::as_str).filter(|line| is_case(line)).collect();
     let model: Vec<String> = asked_for.iter().map(|line| model::answer(line)).collect();
-    let places: Vec<usize> = (0..model.len()).filter(|i| oracle.is_some() && rust_answers(&model[*i])).collect();
+    let places: Vec<usize> =
+        (0..model.len()).filter(|i| oracle.is_some() && rust_answers(asked_for[*i], &model[*i])).collect();
     let chosen: Vec<&str> = places.iter().map(|i| asked_for[*i]).collect();
     let rust = oracle.map_or(Said { answers: vec![], faults: 0 }, |program| asked(&program, &chosen));
     let mut out = model.clone();
@@ -52,6 +53,7 @@ fn list() -> Vec<String> {
     signed_pairs(&mut out);
     engines(&mut out);
     walked_back(&mut out);
+    many_vectors(&mut out);
     edges_of_the_form(&mut out);
     out
 }
@@ -450,6 +452,7 @@ fn refusals(out: &mut Vec<String>) {
         out.push(format!("# {call}: each fault alone and with each other"));
         let base = match *call {
             "elemf" | "elemi" => valid::of_terms(&mut random, call, 3, 4),
+            "elems" => states::of_sizes(&mut random, 3, 4, 2, 3),
             _ => {
                 let rows = valid::rows(&mut random, 3, 2);
                 valid::over_rows(&mut random, call, 3, rows)
@@ -672,4 +675,11 @@ fn walked_back(out: &mut Vec<String>) {
             out.push(case.line());
         }
     }
+}
+
+fn many_vectors(out: &mut Vec<String>) {
+    out.push(
+        "# states of many basis vectors: what leaves i64 and its neighbours, orders, lists at the limit".to_string(),
+    );
+    states::at_each_end(&mut |line| out.push(line));
 }

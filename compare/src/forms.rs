@@ -1,7 +1,7 @@
 //! Lines at the edges of the form: zeros before a number up to one digit too many, each kind of number at its ends, and
 //! every list and lent length as long as a line may have it, and one longer.
 
-use crate::limits::{LINE, LINE_LIST, LINE_LOG, LINE_ROWS, LINE_TERMS, LINE_WORDS, ROWS, TERMS};
+use crate::limits::{LINE, LINE_LIST, LINE_LOG, LINE_ROWS, LINE_TERMS, LINE_VECTORS, LINE_WORDS, ROWS, TERMS};
 use crate::line::{joined, kinds_of, Field};
 use crate::random::Random;
 use crate::rows::Set;
@@ -9,7 +9,7 @@ use crate::small::Sink;
 use crate::valid::call_on;
 
 /// A sound line of each call, with something in every list.
-const LINES: [&str; 19] = [
+const LINES: [&str; 20] = [
     "phase1 1 0 1 1",
     "act1 1 1 1",
     "get 1 1,0 0,1 0,3 1 0",
@@ -29,6 +29,7 @@ const LINES: [&str; 19] = [
     "undo 1 1,1 0,1 0,3 0 1 1,0",
     "elemf 1 0,1 1,1 3ff0000000000000,4000000000000000 0,3ff0000000000000 1 1",
     "elemi 1 0,1 1,1 -3,2 5,-7 1 1",
+    "elems 1 0,1 1,1 -3,2 5,-7 1,0 2,-3 4,5 1,1 -6,7 8,-9",
 ];
 
 pub fn all(sink: Sink) {
@@ -150,10 +151,10 @@ fn ends(kind: char, field: &str) -> Vec<String> {
         'n' | 'o' | 'u' | 'T' => {
             &["65535", "65536", "18446744073709551615", "18446744073709551616", "99999999999999999999"]
         }
-        'w' | 'W' | 'V' => &["ffffffffffffffff", "10000000000000000", "A", "g", "0x1"],
+        'w' | 'W' | 'V' | 'K' => &["ffffffffffffffff", "10000000000000000", "A", "g", "0x1"],
         'B' => &["3", "4", "255", "256"],
         'S' | 'G' => &["65535", "65536"],
-        'I' => &["2147483647", "2147483648", "-2147483648", "-2147483649", "-4294967296", "-0", "--1"],
+        'I' | 'k' => &["2147483647", "2147483648", "-2147483648", "-2147483649", "-4294967296", "-0", "--1"],
         _ => &["I", "i", "XY"],
     };
     let rest = field.split_once(',').map_or(String::new(), |(_, rest)| format!(",{rest}"));
@@ -182,7 +183,7 @@ fn lengths(sink: Sink) {
 }
 
 /// Each list by itself, as long as a line may have it and one item longer; `@` is where it stands.
-const LISTS: [(usize, &str); 26] = [
+const LISTS: [(usize, &str); 34] = [
     (LINE_WORDS, "count 1 @ - - 0"),
     (LINE_WORDS, "count 1 - @ - 0"),
     (LINE_ROWS, "count 0 - - @ 0"),
@@ -209,6 +210,14 @@ const LISTS: [(usize, &str); 26] = [
     (LINE_TERMS, "elemi 1 - - - @ 0 0"),
     (LINE_TERMS, "elemf 1 - - @ - 0 0"),
     (LINE_TERMS, "elemf 1 - - - @ 0 0"),
+    (LINE_TERMS, "elems 1 @ - - - - - - - - -"),
+    (LINE_TERMS, "elems 1 - - @ - - - - - - -"),
+    (LINE_VECTORS, "elems 1 - - - - @ - - - - -"),
+    (LINE_VECTORS, "elems 1 - - - - - @ - - - -"),
+    (LINE_VECTORS, "elems 1 - - - - - - @ - - -"),
+    (LINE_VECTORS, "elems 1 - - - - - - - @ - -"),
+    (LINE_VECTORS, "elems 1 - - - - - - - - @ -"),
+    (LINE_VECTORS, "elems 1 - - - - - - - - - @"),
 ];
 
 fn zeros(line: &str, many: usize) -> String {

@@ -5,6 +5,9 @@ pub const QUBITS: usize = 4096;
 pub const ROWS: usize = 4096;
 pub const TERMS: usize = 65536;
 
+/// The words of a state of many basis vectors.
+pub const VECTORS: usize = 256;
+
 /// Bytes of a line, its end among them.
 pub const LINE: usize = 3_500_000;
 
@@ -22,6 +25,9 @@ pub const LINE_LOG: usize = 140_000;
 
 /// Terms of a matrix element.
 pub const LINE_TERMS: usize = 65_600;
+
+/// Words of a state of many basis vectors.
+pub const LINE_VECTORS: usize = VECTORS + 64;
 
 /// The words of a set or an output that most cases stay below.
 pub const WORDS_IN_REACH: usize = 4400;

@@ -1,6 +1,6 @@
 //! The lines of docs/CALLS.md, read and written by one table of calls.
 
-use crate::limits::{LINE, LINE_LIST, LINE_LOG, LINE_ROWS, LINE_TERMS, LINE_WORDS};
+use crate::limits::{LINE, LINE_LIST, LINE_LOG, LINE_ROWS, LINE_TERMS, LINE_VECTORS, LINE_WORDS};
 
 #[derive(Clone, Debug, PartialEq)]
 pub enum Field {
@@ -17,8 +17,8 @@ pub enum Field {
 }
 
 /// Each call with the kinds of its fields: n number, w word, W words of rows, B bytes, S list of u16, G log, V words of
-/// terms, I list of i32, L letter; lent lengths: o words of a matrix, T four of a set to be written, u units of a log.
-pub const CALLS: [(&str, &str); 19] = [
+/// terms, I list of i32, K words of a state of many basis vectors, k list of i32 beside them, L letter; lent lengths: o words of a matrix, T four of a set to be written, u units of a log.
+pub const CALLS: [(&str, &str); 20] = [
     ("phase1", "wwww"),
     ("act1", "www"),
     ("get", "nWWBnn"),
@@ -38,6 +38,7 @@ pub const CALLS: [(&str, &str); 19] = [
     ("undo", "nWWBSSG"),
     ("elemf", "nVVVVww"),
     ("elemi", "nVVIIww"),
+    ("elems", "nVVIIKkkKkk"),
 ];
 
 #[derive(Clone, Debug, PartialEq)]
@@ -136,6 +137,8 @@ fn field(kind: char, text: &str) -> Option<Field> {
         'G' => Field::Shorts(list(text, LINE_LOG, short)?),
         'V' => Field::Words(list(text, LINE_TERMS, hex)?),
         'I' => Field::Ints(list(text, LINE_TERMS, int)?),
+        'K' => Field::Words(list(text, LINE_VECTORS, hex)?),
+        'k' => Field::Ints(list(text, LINE_VECTORS, int)?),
         'L' => Field::Letter(letter(text)?),
         'o' => Field::Number(decimal(text, LINE_WORDS as u64)?),
         'u' => Field::Number(decimal(text, LINE_LOG as u64)?),

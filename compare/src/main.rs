@@ -20,6 +20,7 @@ mod random;
 mod reduction;
 mod rows;
 mod small;
+mod states;
 mod undoing;
 mod valid;
 mod whole;

@@ -1,7 +1,7 @@
 //! Document 01 in plain words: every line gets its answer, refusals included. Written from the document and its
 //! readings alone.
 
-use crate::limits::{QUBITS, ROWS, TERMS};
+use crate::limits::{QUBITS, ROWS, TERMS, VECTORS};
 use crate::line::{hexes, joined, parsed, Case, Field};
 use crate::reduction::{first_bad, is_reduced, reduce, replay, walk_back, Lists};
 use crate::rows::*;
@@ -43,6 +43,7 @@ fn refusal(case: &Case) -> Option<u8> {
     match case.call {
         "phase1" | "act1" => None,
         "elemf" | "elemi" => refusal_of_terms(case),
+        "elems" => refusal_of_states(case),
         _ => refusal_of_sets(case),
     }
 }
@@ -152,6 +153,29 @@ fn refusal_of_terms(case: &Case) -> Option<u8> {
     ])
 }
 
+/// The bras stand in the fields from 5 on, the kets in those from 8 on: words, real parts, imaginary parts.
+const LISTS: [usize; 2] = [5, 8];
+
+fn refusal_of_states(case: &Case) -> Option<u8> {
+    let n = case.number(0);
+    let (x, z) = (case.words(1), case.words(2));
+    let above = move |word: u64| n < 64 && word >> n != 0;
+    let parts_of = |at: usize, words: usize| [at, at + 1].iter().all(|i| case.ints(*i).len() == words);
+    first_fitting(vec![
+        (1, Box::new(move || n < 1 || n > 64)),
+        (2, Box::new(|| x.len() > TERMS || LISTS.iter().any(|at| case.words(*at).len() > VECTORS))),
+        (
+            3,
+            Box::new(move || {
+                let lists_fit = LISTS.iter().all(|at| parts_of(at + 1, case.words(*at).len()));
+                z.len() != x.len() || !parts_of(3, x.len()) || !lists_fit
+            }),
+        ),
+        (4, Box::new(move || [x, z, case.words(5), case.words(8)].concat().into_iter().any(above))),
+        (10, Box::new(|| x.windows(2).any(|pair| pair[0] > pair[1]))),
+    ])
+}
+
 fn parts(case: &Case) -> [usize; 2] {
     [3, 4].map(|i| if case.call == "elemf" { case.words(i).len() } else { case.ints(i).len() })
 }
@@ -167,6 +191,7 @@ fn worked(case: &Case) -> String {
         "phase1" | "act1" => on_words(case),
         "elemf" => elemf(case),
         "elemi" => elemi(case),
+        "elems" => elems(case),
         _ => over_set(case),
     }
 }
@@ -315,8 +340,11 @@ fn undo(case: &Case, n: usize, mut rows: Vec<Row>) -> String {
 
 /// The places of the block's terms with the exponents of their actions.
 fn block(case: &Case) -> Vec<(usize, u8)> {
+    block_of(case, case.number(5), case.number(6))
+}
+
+fn block_of(case: &Case, bra: u64, ket: u64) -> Vec<(usize, u8)> {
     let (x, z) = (case.words(1), case.words(2));
-    let (bra, ket) = (case.number(5), case.number(6));
     let places = (0..x.len()).filter(|i| x[*i] == bra ^ ket);
     places.map(|i| (i, action(&word(x[i], z[i]), &[ket]))).collect()
 }
@@ -360,6 +388,53 @@ fn elemi(case: &Case) -> String {
         return "none".to_string();
     }
     format!("ok {re} {im}")
+}
+
+type Complex = (i128, i128);
+
+/// Coefficient i of the parts in two fields.
+fn coefficient(case: &Case, at: usize, i: usize) -> Complex {
+    (case.ints(at)[i] as i128, case.ints(at + 1)[i] as i128)
+}
+
+/// The sum over all pairs, bra outer, ket inner; 16 where a number on the way leaves i64.
+fn elems(case: &Case) -> String {
+    let (mut re, mut im) = (0i128, 0i128);
+    for i in 0..case.words(5).len() {
+        for j in 0..case.words(8).len() {
+            let (a, b) = coefficient(case, 6, i);
+            let (c, d) = coefficient(case, 9, j);
+            let first = [a * c, b * d, a * d, b * c, a * c + b * d, a * d - b * c];
+            let (p, q) = (first[4], first[5]);
+            let (e, f) = pair_element(case, i, j);
+            let second = [p * e, q * f, p * f, q * e, p * e - q * f, p * f + q * e];
+            re += second[4];
+            im += second[5];
+            if first.iter().chain(&second).chain(&[re, im]).any(|number| i64::try_from(*number).is_err()) {
+                return "refuse 16".to_string();
+            }
+        }
+    }
+    format!("ok {re} {im}")
+}
+
+/// The element between bra i and ket j: 0 where there is no block.
+fn pair_element(case: &Case, i: usize, j: usize) -> Complex {
+    let (mut re, mut im) = (0, 0);
+    for (k, exponent) in block_of(case, case.words(5)[i], case.words(8)[j]) {
+        let (a, b) = coefficient(case, 3, k);
+        let (a, b) = turned(a, b, exponent);
+        re += a;
+        im += b;
+    }
+    (re, im)
+}
+
+/// Whether f64 hold all numbers of an `elems` that is not refused: the absolute values of all parts of bras, of kets and of
+/// terms, multiplied, are at most 2 to the 53.
+pub fn exact_in_floats(case: &Case) -> bool {
+    let size = |at: usize| [at, at + 1].iter().flat_map(|i| case.ints(*i)).map(|v| (*v as i128).abs()).sum::<i128>();
+    size(6) * size(9) * size(3).max(1) <= EXACT as i128
 }
 
 // ---- floats that are whole numbers

@@ -5,6 +5,7 @@ use crate::limits::QUBITS;
 use crate::line::{Case, Field, CALLS};
 use crate::random::Random;
 use crate::rows::Set;
+use crate::states;
 use crate::valid::{call_on, of_call, of_terms, over_rows, rows};
 
 pub type Sink<'a> = &'a mut dyn FnMut(String);
@@ -194,6 +195,10 @@ fn elements(sink: Sink) {
 fn bases(call: &str, random: &mut Random) -> Vec<Case> {
     if matches!(call, "elemf" | "elemi") {
         return [(1, 2), (3, 5), (63, 6), (64, 4)].map(|(n, count)| of_terms(random, call, n, count)).to_vec();
+    }
+    if call == "elems" {
+        let sizes = [(1, 2, 1, 1), (3, 5, 2, 3), (63, 6, 3, 2), (64, 4, 2, 2)];
+        return sizes.map(|(n, count, bras, kets)| states::of_sizes(random, n, count, bras, kets)).to_vec();
     }
     let sizes = [(1, 1), (3, 2), (64, 2), (65, 3), (130, 2), (QUBITS - 1, 2), (5, 0), (0, 2)];
     sizes

@@ -5,6 +5,7 @@ use crate::line::{Case, Field, CALLS};
 use crate::random::Random;
 use crate::reduction::{reduce, replay, Lists};
 use crate::rows::{multiply, packed, unpacked, words_for, Pauli, Row, Set, LETTERS};
+use crate::states;
 
 /// Qubits and rows: mostly few, some at the edges of words, few at the limits.
 pub fn sizes(random: &mut Random) -> (usize, usize) {
@@ -89,6 +90,7 @@ pub fn of_call(random: &mut Random, call: &str) -> Case {
         "phase1" => Case::new(call, (0..4).map(|_| Field::Word(any_word(random))).collect()),
         "act1" => Case::new(call, (0..3).map(|_| Field::Word(any_word(random))).collect()),
         "elemf" | "elemi" => element(random, call),
+        "elems" => states::case(random),
         _ => {
             let (n, m) = sizes(random);
             let rows = rows(random, n, m);
@@ -97,7 +99,7 @@ pub fn of_call(random: &mut Random, call: &str) -> Case {
     }
 }
 
-fn any_word(random: &mut Random) -> u64 {
+pub fn any_word(random: &mut Random) -> u64 {
     let word = random.word();
     match random.below(6) {
         0 => word & random.word() & random.word(),
@@ -350,7 +352,7 @@ fn element(random: &mut Random, call: &str) -> Case {
     of_terms(random, call, n, count)
 }
 
-fn masked(n: usize, word: u64) -> u64 {
+pub fn masked(n: usize, word: u64) -> u64 {
     if n < 64 {
         word & ((1 << n) - 1)
     } else {
@@ -374,7 +376,7 @@ pub fn of_terms(random: &mut Random, call: &str, n: usize, count: usize) -> Case
     Case::new(call, [fields, vec![Field::Word(bra), Field::Word(ket)]].concat())
 }
 
-fn ints(random: &mut Random, count: usize) -> Vec<i32> {
+pub fn ints(random: &mut Random, count: usize) -> Vec<i32> {
     let one = |random: &mut Random| match random.below(6) {
         0 => random.pick(&[i32::MIN, i32::MAX, i32::MIN + 1, -1, 0, 1]),
         1 => random.word() as i32,

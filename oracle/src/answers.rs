@@ -10,10 +10,11 @@ use oracle::container::traits::{Elements, MutRefElements, RefElements};
 use oracle::container::word_iters::WordIters;
 use oracle::qubit::mode::{PauliMatrix, Qubits, SymplecticPart};
 use oracle::qubit::pauli::cmpnt_major::cmpnt_list::CmpntList;
-use oracle::qubit::pauli::cmpnt_major::mat_elem::mat_elem_cmpnts_from_presorted;
+use oracle::qubit::pauli::cmpnt_major::mat_elem::{mat_elem_cmpnts_from_presorted, mat_elem_from_presorted};
 use oracle::qubit::pauli::cmpnt_major::products::{mul_op_op_phase_u64, mul_op_state_u64};
 use oracle::qubit::pauli::cmpnt_major::terms::{AsViewMut, Terms};
 use oracle::qubit::state::cmpnt_list::CmpntList as StateList;
+use oracle::qubit::state::terms::Terms as States;
 use oracle::qubit::traits::{PauliWordMutRef, PauliWordRef};
 
 use crate::fields::*;
@@ -30,6 +31,7 @@ pub fn answer(line: &str) -> Option<String> {
         "act1" => act1(f),
         "elemf" => elemf(f),
         "elemi" => elemi(f),
+        "elems" => elems(f),
         _ => {
             let n = f.number()?;
             let set = f.set(n)?;
@@ -270,4 +272,25 @@ fn elemi(f: &mut Fields) -> Option<String> {
         Some(sum) => format!("ok {} {}", sum.re as i64, sum.im as i64),
         None => "none".to_string(),
     })
+}
+
+fn complex(re: &[i32], im: &[i32]) -> Vec<Complex64> {
+    re.iter().zip(im).map(|(re, im)| Complex64::new(*re as f64, *im as f64)).collect()
+}
+
+/// The words of a line with their whole coefficients, as a list of basis states.
+fn states(n: usize, f: &mut Fields) -> Option<States<Complex64>> {
+    let words = f.words()?;
+    let mut list = StateList::new(Qubits::from_count(n));
+    words.iter().for_each(|word| list.push_u64it([*word].into_iter()));
+    Some(States::from((list, complex(&f.numbers::<i32>()?, &f.numbers::<i32>()?))))
+}
+
+/// States of many basis vectors. It is asked where f64 hold every number on the way.
+fn elems(f: &mut Fields) -> Option<String> {
+    let (n, x, z) = (f.number()?, f.words()?, f.words()?);
+    let coeffs = complex(&f.numbers::<i32>()?, &f.numbers::<i32>()?);
+    let op = operator(n, &x, &z, coeffs);
+    let sum = mat_elem_from_presorted(&op.terms, &op.blocks, &states(n, f)?, &states(n, f)?);
+    Some(format!("ok {} {}", sum.re as i64, sum.im as i64))
 }
