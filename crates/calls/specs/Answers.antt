@@ -31,6 +31,8 @@ use Rattle.mat_elem.specs.declared.whole.Element as wholeElement
 use Rattle.mat_elem.specs.declared.whole.Element.the-variants as whole
 use Rattle.mat_elem.specs.declared.float.Element as floatElement
 use Rattle.mat_elem.specs.declared.float.Element.the-variants as float
+use Rattle.mat_elem.specs.declared.states.Total as statesTotal
+use Rattle.mat_elem.specs.declared.states.Total.the-variants as total
 use Rattle.text.specs.Numbers.{numeral, digits, integral, pattern}
 use Rattle.text.specs.Lists.{listed}
 use Rattle.text.specs.Workers.{Adds}
@@ -243,3 +245,7 @@ abbrev pub floatLine : floatElement.Element → List ℕ
 floatLine (float.Sum re im) = okFloat re im
 floatLine float.NoBlock = noneLine
 floatLine (float.Refused k) = refuse k
+
+abbrev pub totalLine : statesTotal.Total → List ℕ
+totalLine (total.Sum re im) = okWhole re im
+totalLine (total.Refused k) = refuse k

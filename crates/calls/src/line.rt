@@ -185,6 +185,23 @@ fn in_whole(
     r
 }
 
+// The same between states of many vectors.
+fn of_states(
+    s: &[u8],
+    n: usize,
+    tx: &mut [u64; TERMS],
+    tz: &mut [u64; TERMS],
+    re: &mut [i32; TERMS],
+    im: &mut [i32; TERMS],
+    out: &mut [u8; ANSWER],
+    r: Put,
+) -> Put {
+    if is(s, n, b"elems") {
+        return elements::among_states(s, n, tx, tz, re, im, out, r);
+    }
+    r
+}
+
 // The same in floats.
 fn in_floats(
     s: &[u8],
@@ -226,6 +243,7 @@ fn late(s: &[u8], n: usize) -> bool {
         | is(s, n, b"undo")
         | is(s, n, b"elemi")
         | is(s, n, b"elemf")
+        | is(s, n, b"elems")
 }
 
 // A blank line and a comment have no answer; any other that names no call is bad.
@@ -277,6 +295,7 @@ pub(crate) fn answer(
     let r = of_sets(s, n, x, z, p, x2, z2, p2, x3, z3, p3, clashes, out, r);
     let r = reductions(s, n, x, z, p, order, listed, extra, log, x2, z2, p2, out, r);
     let r = in_whole(s, n, tx, tz, re, im, out, r);
+    let r = of_states(s, n, tx, tz, re, im, out, r);
     let r = in_floats(s, n, tx, tz, fre, fim, out, r);
     unknown(s, n, out, r)
 }

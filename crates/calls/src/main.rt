@@ -11,8 +11,9 @@ mod words;
 
 use encoding::MAX_QUBITS;
 use encoding::MAX_ROWS;
+use mat_elem::states::MAX_VECTORS;
 
-// The most elements that a list of a line may have. Rows, lists and terms reach past what the library takes, so that a line can
+// The most elements that a list of a line may have. Rows, lists, terms and states reach past what the library takes, so that a line can
 // ask for more and have it refused. Words and logs do not: a set at both limits has 4 MiB, its log 64 MiB, and a program has the
 // stack that the system gives it. The words are enough for a word in each of more rows than the limit, or for 70 of the longest rows.
 pub(crate) const ROWS: usize = MAX_ROWS + 64;
@@ -24,6 +25,8 @@ pub(crate) const LIST: usize = 2 * MAX_QUBITS + 64;
 pub(crate) const LOG: usize = 140000;
 
 pub(crate) const TERMS: usize = 65600;
+
+pub(crate) const STATES: usize = MAX_VECTORS + 64;
 
 // The bytes of the longest line, its end among them.
 pub(crate) const LINE: usize = 3500000;

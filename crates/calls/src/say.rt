@@ -2,7 +2,7 @@
 ghost use mathlib.Core.Path.{_≡_};
 ghost use mathlib.Core.Bool.{cond};
 ghost use mathlib.Core.List.{[], _∷_, _++_};
-ghost use Rattle.calls.specs.Answers.{Says, numberText, wordText, integerText, floatText, wordsText, numbersText, setText, end as lineEnd, badLine, refuse as refused, okNumber, actedWord, letterOf, okLetter, gotLine, phaseLine, truthLine, tallyText, okCounts, countLine, okSet, changedLine, okProduct, productLine, okPairs, pairLine, okActed, actLine, okMatrix, matrixLine, pairsOf, pairText, pairsText, standing as standingText, okReduced, fullLog, reduceLine, verdictAt, verdictPlain, checkLine, undoLine, okWhole, okFloat, wholeLine, floatLine};
+ghost use Rattle.calls.specs.Answers.{Says, numberText, wordText, integerText, floatText, wordsText, numbersText, setText, end as lineEnd, badLine, refuse as refused, okNumber, actedWord, letterOf, okLetter, gotLine, phaseLine, truthLine, tallyText, okCounts, countLine, okSet, changedLine, okProduct, productLine, okPairs, pairLine, okActed, actLine, okMatrix, matrixLine, pairsOf, pairText, pairsText, standing as standingText, okReduced, fullLog, reduceLine, verdictAt, verdictPlain, checkLine, undoLine, okWhole, okFloat, wholeLine, floatLine, totalLine};
 ghost use Prim.Native.Nat.{_*_};
 ghost use lib.ListN.{take};
 ghost use Rattle.text.specs.Numbers.{numeral};
@@ -575,5 +575,14 @@ pub(crate) fn floating(out: &mut [u8], r: Put, a: mat_elem::float::Element) -> P
         mat_elem::float::Element::Sum(re, im) => ok_float(out, r, re, im),
         mat_elem::float::Element::NoBlock => letters(out, r, b"none\n"),
         mat_elem::float::Element::Refused(k) => refuse(out, r, k),
+    }
+}
+
+pub(crate) fn total(out: &mut [u8], r: Put, a: mat_elem::states::Total) -> Put
+    ensures { λ q. ⌜ Says (totalLine a) (now (out .entry)) r (now (out .exit)) q ⌝ }
+{
+    match a {
+        mat_elem::states::Total::Sum(re, im) => ok_whole(out, r, re, im),
+        mat_elem::states::Total::Refused(k) => refuse(out, r, k),
     }
 }
