@@ -1,0 +1,3 @@
+pub mod Spots
+pub mod Lifted
+pub mod Conjugate
