@@ -1,3 +1,6 @@
 pub mod Spots
 pub mod Lifted
 pub mod Conjugate
+pub mod Kept
+pub mod Undo
+pub mod RustTable

@@ -2,7 +2,7 @@
 -- the touched qubits, and whether the sign turns. The matrices stand in specs/Matrices.antt. Assumes nothing.
 use mathlib.Core.Bool.{Bool, cond, not, _&&_}
 use mathlib.Core.List.{List, [], _∷_}
-use Prim.Native.Nat.{ℕ, _+_, _%_}
+use Prim.Native.Nat.{ℕ, zero, suc, _+_, _%_}
 use lib.ListN.{getD}
 use Rattle.pauli.specs.Matrix.{onQubits}
 use Rattle.pauli.specs.Pauli.{Pauli, ofBits, hasX, hasZ}
@@ -58,3 +58,16 @@ conjRow n g r = let ps = onQubits n (r .ps) in record { ps = conj g ps; p = (r .
 -- every row of a set
 abbrev pub conjRows : ℕ → Gate → (ℕ → Row) → ℕ → Row
 conjRows n g σ k = conjRow n g (σ k)
+
+-- ---- a gate several times
+
+-- how often a gate has to be done to give back every row: H and controlled-X twice, S four times
+abbrev pub order : Gate → ℕ
+order (H q) = 2
+order (S q) = 4
+order (CX c t) = 2
+
+-- f, done k times
+unfoldable pub repeat : {A : Type 0} → ℕ → (A → A) → A → A
+repeat zero f a = a
+repeat (suc k) f a = f (repeat k f a)
