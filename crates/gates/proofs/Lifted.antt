@@ -40,7 +40,7 @@ sum-zero zero = refl
 sum-zero (suc n) = ap₂ (λ (x y : Gauss). x ⊕ y) (sum-zero n) (sum-zero n) ∙ g0-⊕ g0
 
 -- equal at the states of n qubits
-sum-on : (n : ℕ) (f g : List Bool → Gauss) → ((s : List Bool) → length s ≡ n → f s ≡ g s) → sum n f ≡ sum n g
+pub sum-on : (n : ℕ) (f g : List Bool → Gauss) → ((s : List Bool) → length s ≡ n → f s ≡ g s) → sum n f ≡ sum n g
 sum-on zero f g h = h [] refl
 sum-on (suc n) f g h =
     ap₂ (λ (x y : Gauss). x ⊕ y) (sum-on n (λ s. f (false ∷ s)) (λ s. g (false ∷ s)) (λ s e. h (false ∷ s) (ap suc e)))
