@@ -1,0 +1,6 @@
+pub mod Images
+pub mod Tests
+pub mod Rows
+pub mod Loop
+pub mod Meaning
+pub mod Logs

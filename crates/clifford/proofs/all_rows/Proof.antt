@@ -1,0 +1,68 @@
+use borrow.Author.Needs.{needs}
+use native.Mathlib.Omega.{arith}
+use mathlib.Core.Path.{_≡_, refl, sym, _∙_}
+use Prim.Native.Nat.{ℕ, _-_, _<_, _≤_}
+use lib.ListN.{length}
+use Rattle.encoding.specs.Set.{mem}
+use Rattle.clifford.proofs.Loop.{Doing, doing-none, doing-more, doing-all}
+use Rattle.clifford.proofs.all_rows.Statement.{statement}
+use Rattle.clifford.proofs.all_rows.Tie as tie
+use Rattle.clifford.proofs.all_rows.Reads as reads
+use Rattle.clifford.proofs.all_rows.Lts as lts
+use Rattle.clifford.proofs.gate_row.Reads as gate-row-reads
+
+abbrev Inv-loop : tie.InvT-loop
+Inv-loop n x₀ z₀ phases₀ g m r₀ x z phases r =
+    (r ≤ m) × (m ≡ length phases₀) × (length x ≡ length x₀) × (length z ≡ length z₀) × (length phases ≡ length phases₀) × Doing n g (mem x₀ z₀ phases₀) (mem x z phases) r
+
+abbrev μ-loop : tie.MeasureT-loop
+μ-loop n x₀ z₀ phases₀ g m r₀ x z phases r = m - r
+
+loop-holds : tie.Need-loop-holds Inv-loop μ-loop
+loop-holds c = let s = c .before .before .before in (omega arith, refl, refl, refl, refl, doing-none (s .args .n) (s .args .g) (s .pre .sound))
+
+gate-row-requires : tie.Need-gate-row-requires Inv-loop μ-loop
+gate-row-requires c κs =
+    let i = c .before .before .before in
+    let l = i .before in
+    let s = l .before .before .before .before in
+    record { ready = record { sound = l .loop .inv .5 .sound; places = s .pre .places }; row-in = omega (arith, i .loop-test .taken, l .loop .inv .1, l .loop .inv .4) }
+
+loop-again : tie.Need-loop-again Inv-loop μ-loop
+loop-again c =
+    let w = c .before .before .before .before .before .before in
+    let i = w .before .before .before .before in
+    let l = i .before in
+    let s = l .before .before .before .before in
+    let v = l .loop .inv in
+    (
+      omega (arith, i .loop-test .taken),
+      v .1,
+      w .gate-row .kept .1 .0 ∙ v .2,
+      w .gate-row .kept .1 .1 .0 ∙ v .3,
+      w .gate-row .kept .1 .1 .1 .0 ∙ v .4,
+      doing-more (s .args .n) (s .args .g) (l .loop .r) (v .5) (v .4) (omega (arith, i .loop-test .taken, v .1)) (w .gate-row .ensures),
+    )
+
+returns : tie.Need-returns Inv-loop μ-loop
+returns c =
+    let l = c .before in
+    let s = l .before .before .before .before in
+    let v = l .loop .inv in
+    doing-all (s .args .n) (s .args .g) (l .loop .r) (v .5) (v .4) (omega (arith, c .loop-test .left, v .1))
+
+pub all-rows-spec : {M : Type 1} → statement M
+all-rows-spec =
+    tie.close
+    (tie.spec
+    Inv-loop
+    μ-loop
+    loop-holds
+    gate-row-requires
+    (λ c. search needs)
+    (λ c. search needs)
+    loop-again
+    (λ c. search needs)
+    (λ c. search needs)
+    (λ c. search needs)
+    returns)

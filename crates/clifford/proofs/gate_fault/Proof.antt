@@ -1,0 +1,42 @@
+use borrow.Author.Needs.{needs}
+use native.Mathlib.Omega.{arith}
+use Rattle.encoding.specs.Set.{mem}
+use Rattle.clifford.proofs.Tests.{set-number, gate-number, gate-ready}
+use Rattle.clifford.proofs.gate_fault.Statement.{statement}
+use Rattle.clifford.proofs.gate_fault.Tie as tie
+use Rattle.clifford.proofs.gate_fault.Reads as reads
+use Rattle.clifford.proofs.gate_fault.Lts as lts
+use Rattle.clifford.proofs.large_qubit.Reads as large-qubit-reads
+use Rattle.clifford.proofs.one_qubit_twice.Reads as one-qubit-twice-reads
+use Rattle.encoding.proofs.pick.Reads as pick-reads
+use Rattle.encoding.proofs.set_fault.Reads as set-fault-reads
+
+returns : tie.Need-returns
+returns c =
+    let f = c .before in
+    let a = f .before .before .before .before .args in
+    (set-number (a .n) (mem (a .x .now) (a .z .now) (a .phases .now)) (a .g) (f .set-fault .ensures .0) (c .if1 .taken), λ z. absurd (c .if1 .taken z))
+
+returns-2 : tie.Need-returns-2
+returns-2 c =
+    let b = c .before .before in
+    let l = b .before in
+    let f = l .before .before in
+    let a = f .before .before .before .before .args in
+    let M = mem (a .x .now) (a .z .now) (a .phases .now) in
+    let z = l .before .if1 .left in (
+      gate-number (a .n) M (a .g) (f .set-fault .ensures .0) z (l .large-qubit .ensures) (b .one-qubit-twice .ensures) (c .before .pick .ensures) (c .pick2 .ensures),
+      gate-ready (a .n) M (a .g) (f .set-fault .ensures .0) z (l .large-qubit .ensures) (b .one-qubit-twice .ensures) (c .before .pick .ensures) (c .pick2 .ensures) (f .set-fault .ensures .1),
+    )
+
+pub gate-fault-spec : {M : Type 1} → statement M
+gate-fault-spec =
+    tie.close
+    (tie.spec
+    (λ c κs. search needs)
+    returns
+    (λ c κs. search needs)
+    (λ c κs. search needs)
+    (λ c κs. search needs)
+    (λ c κs. search needs)
+    returns-2)

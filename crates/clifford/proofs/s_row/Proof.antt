@@ -1,0 +1,33 @@
+use borrow.Author.Needs.{needs}
+use native.Mathlib.Omega.{arith}
+use Rattle.clifford.proofs.Rows.{s-done}
+use Rattle.clifford.proofs.s_row.Statement.{statement}
+use Rattle.clifford.proofs.s_row.Tie as tie
+use Rattle.clifford.proofs.s_row.Reads as reads
+use Rattle.clifford.proofs.s_row.Lts as lts
+use Rattle.clifford.proofs.is_y.Reads as is-y-reads
+use Rattle.clifford.proofs.s_image.Reads as s-image-reads
+use Rattle.clifford.proofs.set_turned.Reads as set-turned-reads
+use Rattle.one_qubit.proofs.get_pauli_unchecked.Reads as get-pauli-unchecked-reads
+
+returns : tie.Need-returns
+returns c =
+    let t = c .before .before .before .before .before .before in
+    let y = t .before in
+    let i = y .before in
+    let g = i .before .before .before .before in
+    let s = g .before .before .before .before .before .before in
+    s-done (s .args .n) (s .args .r .0) (s .args .q) (s .pre) (g .get-pauli-unchecked .ensures) (i .s-image .ensures) (y .is-y .ensures) (t .set-turned .ensures)
+
+pub s-row-spec : {M : Type 1} → statement M
+s-row-spec =
+    tie.close
+    (tie.spec
+    (λ c κs. search needs)
+    (λ c κs. search needs)
+    (λ c κs. search needs)
+    (λ c κs. search needs)
+    (λ c. search needs)
+    (λ c. search needs)
+    (λ c. search needs)
+    returns)
