@@ -21,7 +21,6 @@ use Rattle.gates.proofs.Spots.{put-at}
 use Rattle.gates.proofs.Lifted.{sum-on}
 use Rattle.gates.proofs.Conjugate.{conjugate}
 
-
 -- ---- n times I is the identity
 
 acts-not : (n : ℕ) (s : List Bool) → length s ≡ n → (act (onQubits n []) s ≡ s) × (actPhase (onQubits n []) s ≡ 0)

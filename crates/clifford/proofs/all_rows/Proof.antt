@@ -34,8 +34,7 @@ loop-again c =
     let i = w .before .before .before .before in
     let l = i .before in
     let s = l .before .before .before .before in
-    let v = l .loop .inv in
-    (
+    let v = l .loop .inv in (
       omega (arith, i .loop-test .taken),
       v .1,
       w .gate-row .kept .1 .0 ∙ v .2,
