@@ -25,6 +25,7 @@ use std::hint::black_box;
 use oracle::container::coeffs::complex_sign::ComplexSign;
 use oracle::container::traits::{Elements, RefElements};
 use oracle::container::word_iters::WordIters;
+use oracle::qubit::clifford;
 use oracle::qubit::mode::Qubits;
 use oracle::qubit::pauli::cmpnt_major::mat_elem::{mat_elem_cmpnts_from_presorted, mat_elem_from_presorted};
 use oracle::qubit::pauli::cmpnt_major::terms::{AsViewMut, Terms};
@@ -80,6 +81,9 @@ fn times() {
     }
     for m in [64, 256] {
         in_place(&Set::random(&mut random, QUBITS, m));
+    }
+    for m in [256, 4096] {
+        gates(&Set::random(&mut random, QUBITS, m));
     }
     reduction(&Set::random(&mut random, QUBITS, 256));
     for block in [TERMS, 16] {
@@ -236,6 +240,34 @@ fn in_place(set: &Set) {
         side(sweeps * m, || time(|| (0..sweeps).for_each(|_| rust_sweep(black_box(&mut rust))))),
         vec![],
     );
+}
+
+/// Each gate on the qubits of one word, or from one word to another, on every row. Ours tests the whole set at each call; the Rust
+/// tests nothing.
+fn gates(set: &Set) {
+    type Ours = fn(&mut Set, usize) -> u8;
+    type Rust = fn(usize) -> clifford::Gate;
+    const GATES: [(&str, Ours, Rust); 3] = [
+        ("conj_clifford, H", |set, q| ours::conj_h(set, q), clifford::h),
+        ("conj_clifford, S", |set, q| ours::conj_s(set, q), clifford::s),
+        ("conj_clifford, CX", |set, q| ours::conj_cx(set, q, q + 500), |q| clifford::cx(q, q + 500).expect("two qubits")),
+    ];
+    for (name, gate, rust_gate) in GATES {
+        let (mut ours, mut rust) = (set.clone(), set.terms());
+        let sweep = |set: &mut Set| (64..128).for_each(|q| assert_eq!(gate(set, black_box(q)), 0));
+        let rust_sweep = |set: &mut Terms<ComplexSign>| (64..128).for_each(|q| set.conj_clifford(rust_gate(black_box(q))));
+        sweep(&mut ours);
+        rust_sweep(&mut rust);
+        agree(name, text(&ours), fields::set_text(&rust));
+        line(
+            name,
+            &size(set),
+            RUNS,
+            side(64, || time(|| sweep(black_box(&mut ours)))),
+            side(64, || time(|| rust_sweep(black_box(&mut rust)))),
+            vec![],
+        );
+    }
 }
 
 fn reduction(set: &Set) {

@@ -53,6 +53,40 @@ extern "C" {
         clashes: *mut u16,
     ) -> u8;
 
+    fn speed_conj_h(
+        n: usize,
+        x: *mut u64,
+        x_len: usize,
+        z: *mut u64,
+        z_len: usize,
+        phases: *mut u8,
+        phases_len: usize,
+        q: usize,
+    ) -> u8;
+
+    fn speed_conj_s(
+        n: usize,
+        x: *mut u64,
+        x_len: usize,
+        z: *mut u64,
+        z_len: usize,
+        phases: *mut u8,
+        phases_len: usize,
+        q: usize,
+    ) -> u8;
+
+    fn speed_conj_cx(
+        n: usize,
+        x: *mut u64,
+        x_len: usize,
+        z: *mut u64,
+        z_len: usize,
+        phases: *mut u8,
+        phases_len: usize,
+        control: usize,
+        target: usize,
+    ) -> u8;
+
     fn speed_canonicalize_all(
         n: usize,
         x: *mut u64,
@@ -198,6 +232,55 @@ pub fn imul(set: &mut Set, a: usize, b: usize) -> u8 {
 }
 
 /// The number, the entries and the pivots.
+/// H of a qubit.
+pub fn conj_h(set: &mut Set, q: usize) -> u8 {
+    unsafe {
+        speed_conj_h(
+            set.n,
+            set.x.as_mut_ptr(),
+            set.x.len(),
+            set.z.as_mut_ptr(),
+            set.z.len(),
+            set.phases.as_mut_ptr(),
+            set.phases.len(),
+            q,
+        )
+    }
+}
+
+/// S of a qubit.
+pub fn conj_s(set: &mut Set, q: usize) -> u8 {
+    unsafe {
+        speed_conj_s(
+            set.n,
+            set.x.as_mut_ptr(),
+            set.x.len(),
+            set.z.as_mut_ptr(),
+            set.z.len(),
+            set.phases.as_mut_ptr(),
+            set.phases.len(),
+            q,
+        )
+    }
+}
+
+/// Controlled-X of a control and a target.
+pub fn conj_cx(set: &mut Set, control: usize, target: usize) -> u8 {
+    unsafe {
+        speed_conj_cx(
+            set.n,
+            set.x.as_mut_ptr(),
+            set.x.len(),
+            set.z.as_mut_ptr(),
+            set.z.len(),
+            set.phases.as_mut_ptr(),
+            set.phases.len(),
+            control,
+            target,
+        )
+    }
+}
+
 pub fn canonicalize_all(set: &mut Set, log: &mut [u16]) -> (u8, usize, usize) {
     let (mut entries, mut t) = (0, 0);
     let code = unsafe {

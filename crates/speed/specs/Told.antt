@@ -19,6 +19,8 @@ use Rattle.replay.specs.declared.Undone.{Undone}
 use Rattle.replay.specs.declared.Undone.the-variants as undone
 use Rattle.replay.specs.declared.Verdict.{Verdict}
 use Rattle.replay.specs.declared.Verdict.the-variants as verdict
+use Rattle.gates.specs.declared.Gate.{Gate}
+use Rattle.gates.specs.declared.Gate.the-variants as gate
 use Rattle.mat_elem.specs.declared.float.Element.{Element}
 use Rattle.mat_elem.specs.declared.float.Element.the-variants as element
 use Rattle.mat_elem.specs.declared.states.Total.{Total}
@@ -179,3 +181,14 @@ pub record Totalled (re im re′ im′ : ℤ) (r : ℕ) (a : Total) : Type 0 whe
   pub number : r ≡ totalNumber a
   pub real : re′ ≡ totalReal re a
   pub imag : im′ ≡ totalImag im a
+
+-- ---- gates, by the numbers of their qubits
+
+abbrev pub hOf : ℕ → Gate
+hOf q = gate.H (record { 0 = q })
+
+abbrev pub sOf : ℕ → Gate
+sOf q = gate.S (record { 0 = q })
+
+abbrev pub cxOf : ℕ → ℕ → Gate
+cxOf c t = gate.CX (record { 0 = c }) (record { 0 = t })

@@ -5,15 +5,18 @@ ghost use Rattle.cmpnt_list.specs.Calls.{CompatibilityMatrix, MulPairwise, phas
 ghost use Rattle.terms.specs.Calls.{Multiplies, ReducesAll, reducedNumber};
 ghost use Rattle.replay.specs.Check.{task, claim};
 ghost use Rattle.replay.specs.Undo.{Undoes};
+ghost use Rattle.clifford.specs.Calls.{Conjugates};
 ghost use Rattle.mat_elem.specs.float.Product.{MatElem};
 ghost use Rattle.mat_elem.specs.Lent.{termsLent, stateLent};
 ghost use Rattle.mat_elem.specs.states.Vectors as states;
 ghost use Rattle.speed.specs.Told.{Told, Number, numberOf, Phased, Exactly, phaseNumber, exponentOr, productNumber, clashesOr, Multiplied, Counted, entriesOr, pivotsOr, verdictNumber, placeOr, Placed, CheckedOn, undoneNumber, entryOr, WalkedTo, Parted, elementNumber, realOr, imagOr};
-ghost use Rattle.speed.specs.Told.{Totalled, totalNumber, totalReal, totalImag};
+ghost use Rattle.speed.specs.Told.{Totalled, totalNumber, totalReal, totalImag, hOf, sOf, cxOf};
 use cmpnt_list::Phase;
 use encoding::Answer;
+use gates::Gate;
 use mat_elem::float::Element;
 use mat_elem::states::Total;
+use pauli::QubitNumber;
 use pauli::RowNumber;
 use replay::Undone;
 use replay::Verdict;
@@ -109,6 +112,52 @@ pub extern "C" fn speed_phase_of_mul_by_table(
     let s = phased(e, *exponent);
     *exponent = s.exponent;
     s.number
+}
+
+#[no_mangle]
+pub extern "C" fn speed_conj_h(
+    n: usize,
+    x: &mut [u64],
+    z: &mut [u64],
+    phases: &mut [u8],
+    q: usize,
+) -> u8
+    ensures { λ r. ⌜ Told (Conjugates n (hOf q) (before x z phases) (after x z phases)) (Number r) ⌝ }
+{
+    let g = Gate::H(QubitNumber(q));
+    number(clifford::conj_clifford(n, x, z, phases, g))
+}
+
+#[no_mangle]
+pub extern "C" fn speed_conj_s(
+    n: usize,
+    x: &mut [u64],
+    z: &mut [u64],
+    phases: &mut [u8],
+    q: usize,
+) -> u8
+    ensures { λ r. ⌜ Told (Conjugates n (sOf q) (before x z phases) (after x z phases)) (Number r) ⌝ }
+{
+    let g = Gate::S(QubitNumber(q));
+    number(clifford::conj_clifford(n, x, z, phases, g))
+}
+
+#[no_mangle]
+pub extern "C" fn speed_conj_cx(
+    n: usize,
+    x: &mut [u64],
+    z: &mut [u64],
+    phases: &mut [u8],
+    control: usize,
+    target: usize,
+) -> u8
+    ensures { λ r. ⌜ Told (Conjugates n (cxOf control target) (before x z phases) (after x z phases)) (Number r) ⌝ }
+{
+    let g = Gate::CX {
+        control: QubitNumber(control),
+        target: QubitNumber(target),
+    };
+    number(clifford::conj_clifford(n, x, z, phases, g))
 }
 
 struct Product {
