@@ -1,6 +1,6 @@
 -- The images and signs of controlled-X, Pauli by Pauli. Assumes nothing.
 use mathlib.Core.Path.{_≡_, refl}
-use mathlib.Core.Bool.{Bool, true, false, not, _&&_}
+use mathlib.Core.Bool.{false, not, _&&_}
 use Rattle.pauli.specs.Pauli.{Pauli, ofBits, hasX, hasZ}
 use Rattle.pauli.specs.declared.PauliMatrix.the-variants.{I, X, Y, Z}
 use Rattle.gates.specs.Gates.{differ}

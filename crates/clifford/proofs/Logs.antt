@@ -1,10 +1,9 @@
 -- A log made before a gate replays after it to the conjugated rows: products being kept, so is each entry, and so is their row. Rows past the last one take
 -- no part, the log's numbers being below m. Assumes nothing.
-use mathlib.Core.Path.{_≡_, refl, sym, ap, ap₂, _∙_, subst, fun-ext}
+use mathlib.Core.Path.{_≡_, refl, sym, ap, ap₂, _∙_, fun-ext}
 use mathlib.Core.Bool.{Bool, true, false, cond}
 use mathlib.Core.List.{List, [], _∷_}
 use Prim.Native.Nat.{ℕ, _*_, _≤_, _<_}
-use native.Mathlib.Decide.{ℕ-discrete}
 use native.Mathlib.Omega.{arith}
 use lib.Dec.{eqb}
 use Rattle.pauli.specs.Row.{Row, mulRow}
@@ -22,7 +21,7 @@ use Rattle.gates.specs.Gates.{touched, conjRow, conjRows}
 use Rattle.gates.specs.declared.Gate.{Gate}
 use Rattle.gates.proofs.Kept.{product-kept}
 use Rattle.one_qubit.proofs.OneRow.{lay-same}
-use Rattle.clifford.specs.Calls.{gateFault, Conjugates}
+use Rattle.clifford.specs.Calls.{Conjugates}
 use Rattle.clifford.proofs.Meaning.{set-passed, none-fits, laid, places, rows-are}
 
 -- ---- over rows

@@ -4,14 +4,13 @@ use mathlib.Core.Path.{_≡_, refl, sym, ap, _∙_, subst}
 use Prim.Native.Nat.{ℕ, _+_, _<_, _≤_}
 use native.Mathlib.Decide.{ℕ-discrete}
 use native.Mathlib.Omega.{arith}
-use Rattle.pauli.specs.Row.{Row}
 use Rattle.encoding.specs.Limits.{wordsOf}
 use Rattle.encoding.specs.Set.{Mem, count, rowsOf, lay, Sound}
 use Rattle.encoding.proofs.Memory.{lay-back}
 use Rattle.gates.specs.Gates.{conjRow, conjRows}
 use Rattle.gates.specs.declared.Gate.{Gate}
 use Rattle.one_qubit.specs.Leaves.{atRow}
-use Rattle.one_qubit.proofs.OneRow.{row-here, row-other, lay-same, Fine, fine-rows, fine-at, rows-laid, sound-laid}
+use Rattle.one_qubit.proofs.OneRow.{row-here, row-other, lay-same, fine-rows, fine-at, rows-laid, sound-laid}
 use Rattle.clifford.specs.Workers.{Changed}
 use Rattle.clifford.proofs.Rows.{fine-conj}
 

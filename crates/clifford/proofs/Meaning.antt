@@ -2,7 +2,7 @@
 -- the same, and the set taken by every call again. A gate several times gives back the set. Assumes nothing.
 use mathlib.Core.Path.{_≡_, refl, sym, ap, ap₂, _∙_, subst}
 use mathlib.Core.Logic.{_↔_}
-use mathlib.Core.Bool.{Bool, true, false, cond}
+use mathlib.Core.Bool.{Bool, cond}
 use mathlib.Core.List.{List, _++_}
 use Prim.Native.Nat.{ℕ, zero, suc, _*_, _≤_, _<_}
 use native.Mathlib.Omega.{arith}
@@ -13,13 +13,12 @@ use Rattle.pauli.specs.Rows.{commute}
 use Rattle.encoding.specs.Limits.{maxQubits, maxRows, wordsOf}
 use Rattle.encoding.specs.Words.{layRows}
 use Rattle.encoding.specs.Set.{Mem, count, rowsOf, list, lay, Sound}
-use Rattle.encoding.specs.Refusals.{fault, least, joined, setTests, doneOr, leftOr}
+use Rattle.encoding.specs.Refusals.{fault, least, setTests, doneOr, leftOr}
 use Rattle.encoding.specs.declared.Answer.{Answer}
 use Rattle.encoding.specs.declared.Answer.the-variants.{Done, Refused}
 use Rattle.encoding.proofs.Again.{lay-passes}
-use Rattle.encoding.proofs.Faults.{orElse, or-none, not-large, joined-fault, done-none}
-use Rattle.encoding.proofs.Memory.{Proper, within-limits, read-lay, count-lay, lay-back}
-use Rattle.encoding.proofs.Sets.{read-proper}
+use Rattle.encoding.proofs.Faults.{or-none, joined-fault, done-none}
+use Rattle.encoding.proofs.Memory.{within-limits, read-lay, count-lay, lay-back}
 use Rattle.terms.specs.Ranks.{numbered}
 use Rattle.terms.proofs.Ranks.{Given, given-iff}
 use Rattle.cmpnt_list.specs.Calls.{matrixTests, matrixFault, laidMatrix, commuting, CompatibilityMatrix}
@@ -30,7 +29,7 @@ use Rattle.gates.specs.declared.Gate.{Gate}
 use Rattle.gates.proofs.Conjugate.{row-conjugated}
 use Rattle.gates.proofs.Kept.{commute-kept}
 use Rattle.gates.proofs.Undo.{undone}
-use Rattle.one_qubit.proofs.OneRow.{list-same, lay-same, Fine, fine-rows, count-laid, rows-laid, sound-laid}
+use Rattle.one_qubit.proofs.OneRow.{list-same, lay-same, Fine, fine-rows, sound-laid}
 use Rattle.clifford.specs.Calls.{largeQubit, oneQubit, gateLines, gateFault, Conjugates}
 use Rattle.clifford.proofs.Rows.{fine-conj}
 use Rattle.clifford.proofs.Tests.{fault-is, places-of, two-none}

@@ -1,8 +1,8 @@
 -- One row of a set under a gate: what the leaves read and set is the row conjugated. A row of n qubits is its own list on n qubits, so `conjRow` is `conj`
 -- and `sign` of its Paulis; both are given by the Paulis that were read. Assumes nothing.
-use mathlib.Core.Path.{_≡_, refl, sym, ap, ap₂, _∙_, subst}
+use mathlib.Core.Path.{_≡_, sym, ap, ap₂, _∙_, subst}
 use mathlib.Core.Bool.{Bool, cond, _&&_}
-use mathlib.Core.List.{List, [], _∷_}
+use mathlib.Core.List.{List}
 use Prim.Native.Nat.{ℕ, _+_, _%_, _<_}
 use native.Mathlib.Decide.{ℕ-discrete}
 use native.Mathlib.Omega.{arith}
@@ -17,11 +17,11 @@ use Rattle.pauli.proofs.OnQubits.{length-on, on-same}
 use Rattle.pauli.proofs.RowLaws.{row-eq}
 use Rattle.encoding.specs.Limits.{wordsOf}
 use Rattle.encoding.specs.Words.{layRows}
-use Rattle.encoding.specs.Set.{Mem, mem, count, rowsIn, rowsOf, list, layIn, lay, Sound}
-use Rattle.encoding.proofs.Memory.{mem-eq, lay-back}
+use Rattle.encoding.specs.Set.{Mem, mem, count, rowsIn, rowsOf, list, layIn}
+use Rattle.encoding.proofs.Memory.{mem-eq}
 use Rattle.encoding.proofs.Parts.{length-list, getD-list}
 use Rattle.encoding.proofs.WordLaws.{Fit}
-use Rattle.gates.specs.Gates.{touched, image, turns, differ, conj, sign, conjRow}
+use Rattle.gates.specs.Gates.{differ, conj, sign, conjRow}
 use Rattle.gates.specs.declared.Gate.{Gate}
 use Rattle.gates.specs.declared.Gate.the-variants as gate
 use Rattle.gates.proofs.Conjugate.{length-conj}

@@ -1,10 +1,10 @@
 -- The tests of a gate: 1 to 5 of the set, then 6, then 21; and what no refusal leaves. Assumes nothing.
 use mathlib.Core.Path.{_≡_, refl, sym, ap, ap₂, _∙_}
 use mathlib.Core.Bool.{Bool, true, false, cond}
-use Prim.Native.Nat.{ℕ, _<_}
+use Prim.Native.Nat.{ℕ}
 use native.Mathlib.Omega.{arith}
 use borrow.Author.Tests.{leb-false, eqb-false}
-use lib.Dec.{eqb, leb}
+use lib.Dec.{leb}
 use Rattle.encoding.specs.Limits.{wordsOf}
 use Rattle.encoding.specs.Set.{Mem, Valid}
 use Rattle.encoding.specs.Refusals.{fault, setTests}

@@ -1,14 +1,13 @@
 -- What the private functions ask and leave: a set and a gate that passed their tests, one row changed. Assumes nothing.
 use mathlib.Core.Path.{_≡_}
 use mathlib.Core.Bool.{Bool, cond, not, _&&_}
-use mathlib.Core.List.{List}
 use Prim.Native.Nat.{ℕ, _+_, _%_, _<_}
 use lib.ListN.{set}
 use Rattle.pauli.specs.Pauli.{Pauli, ofBits, hasX, hasZ}
 use Rattle.pauli.specs.Row.{Row}
 use Rattle.encoding.specs.Set.{Mem, count, rowsOf, lay, Sound}
 use Rattle.gates.specs.Places.{Places}
-use Rattle.gates.specs.Gates.{touched, differ, conjRow}
+use Rattle.gates.specs.Gates.{touched, differ}
 use Rattle.gates.specs.declared.Gate.{Gate}
 use Rattle.one_qubit.specs.Leaves.{withPauli, atRow}
 

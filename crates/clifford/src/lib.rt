@@ -1,7 +1,6 @@
 // Clifford gates above the row set: one call, which conjugates every row of a set in place. The set is reached through its tests and its leaves alone.
 ghost use mathlib.Core.Path.{_≡_};
 ghost use mathlib.Core.Bool.{cond, true, not, _&&_};
-ghost use Prim.Native.Nat.{_<_};
 ghost use lib.ListN.{length};
 ghost use Rattle.pauli.specs.Pauli.{ofBits, hasX, hasZ};
 ghost use Rattle.encoding.specs.Set.{mem, rowsOf, lay};
@@ -287,7 +286,8 @@ pub fn conj_clifford(
     phases: &mut [u8],
     gate: Gate,
 ) -> Answer
-    ensures { λ a. ⌜ Conjugates n gate (mem (now (x .entry)) (now (z .entry)) (now (phases .entry))) (mem (now (x .exit)) (now (z .exit)) (now (phases .exit))) a ⌝ }
+    ensures { λ a. ⌜ Conjugates n gate (mem (now (x .entry)) (now (z .entry)) (now (phases .entry)))
+        (mem (now (x .exit)) (now (z .exit)) (now (phases .exit))) a ⌝ }
 {
     let f = gate_fault(n, x, z, phases, gate);
     if f != 0 {

@@ -1,14 +1,14 @@
 -- Gate, row, inverse gate, multiplied as matrices, give the conjugated row with its sign; twice it for H. One theorem for all gates: on the touched
 -- qubits it is a computed test of every Pauli and bit, and proofs/Lifted.antt carries it to n qubits. Assumes nothing.
-use mathlib.Core.Path.{_≡_, refl, sym, ap, ap₂, _∙_, subst}
-use mathlib.Core.Bool.{Bool, true, false, cond}
+use mathlib.Core.Path.{_≡_, refl, sym, ap, _∙_}
+use mathlib.Core.Bool.{Bool, false, cond}
 use mathlib.Core.List.{List, [], _∷_}
 use Prim.Native.Nat.{ℕ, _+_, _%_}
 use native.Mathlib.Omega.{arith}
 use lib.Dec.{T}
 use lib.ListN.{length, getD}
-use Rattle.pauli.specs.Gauss.{Gauss, _⊕_, _⊗_, ipow}
-use Rattle.pauli.specs.Matrix.{Matrix, matrix, sum, times, scaled, Same, onQubits, matrixOf, rowMatrix}
+use Rattle.pauli.specs.Gauss.{Gauss, _⊗_, ipow}
+use Rattle.pauli.specs.Matrix.{Matrix, matrix, times, scaled, Same, onQubits, rowMatrix}
 use Rattle.pauli.specs.Pauli.{Pauli}
 use Rattle.pauli.specs.declared.PauliMatrix.the-variants.{I}
 use Rattle.pauli.specs.Row.{Row}
@@ -16,7 +16,7 @@ use Rattle.pauli.proofs.Every.{everyP, atP, everyB, atB, eqG, eqG→eq}
 use Rattle.pauli.proofs.GaussRing.{⊗-comm, ⊗-assoc, ipow-add, ipow-mod}
 use Rattle.pauli.proofs.OnQubits.{length-on, on-same}
 use Rattle.pauli.proofs.Products.{sum-scale, sum-ext}
-use Rattle.gates.specs.Places.{at, put, Places}
+use Rattle.gates.specs.Places.{at, Places}
 use Rattle.gates.specs.Gates.{Gate, H, S, CX, touched, image, turns, conj, sign, conjRow}
 use Rattle.gates.specs.Matrices.{small, smallInverse, factor, gateMatrix, inverseMatrix}
 use Rattle.gates.proofs.Spots.{length-put}

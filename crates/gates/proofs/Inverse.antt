@@ -1,13 +1,13 @@
 -- The gate times what stands on the other side is its factor times the identity: the theorem of the rows, for the row of n times I. Assumes nothing.
 use mathlib.Core.Path.{_≡_, refl, sym, ap, ap₂, _∙_}
-use mathlib.Core.Bool.{Bool, true, false, cond}
+use mathlib.Core.Bool.{Bool, cond}
 use mathlib.Core.List.{List, [], _∷_}
-use Prim.Native.Nat.{ℕ, zero, suc, _+_}
+use Prim.Native.Nat.{ℕ, zero, suc}
 use native.Mathlib.Omega.{arith}
 use native.Mathlib.Nat.{suc-inj}
 use lib.ListN.{length, getD}
 use Rattle.pauli.specs.Gauss.{Gauss, _⊗_, g1, ipow}
-use Rattle.pauli.specs.Matrix.{Matrix, matrix, sum, times, scaled, Same, onQubits, matrixOf, basis}
+use Rattle.pauli.specs.Matrix.{Matrix, matrix, times, scaled, Same, onQubits, matrixOf, basis}
 use Rattle.pauli.specs.Pauli.{Pauli, act, actPhase}
 use Rattle.pauli.specs.declared.PauliMatrix.the-variants.{I}
 use Rattle.pauli.specs.Row.{identity}

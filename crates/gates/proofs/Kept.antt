@@ -7,15 +7,14 @@ use Prim.Native.Nat.{ℕ, zero, suc, _+_, _*_, _%_}
 use native.Mathlib.Nat.{suc-inj, add-comm}
 use native.Mathlib.Omega.{arith}
 use lib.Dec.{T, eqb, eqb→eq}
-use lib.ListN.{length, getD, set, take}
+use lib.ListN.{length, getD, set}
 use Rattle.pauli.specs.Matrix.{onQubits}
 use Rattle.pauli.specs.Pauli.{Pauli, ofBits, hasX, hasZ, each, total, _·_, mul, phase, phases, clash, clashes}
 use Rattle.pauli.specs.declared.PauliMatrix.the-variants.{I, X, Y, Z}
-use Rattle.pauli.specs.Row.{Row, padMul, expo, mulRow, eqP}
+use Rattle.pauli.specs.Row.{Row, padMul, mulRow, eqP}
 use Rattle.pauli.specs.Rows.{clashesOf, commute}
 use Rattle.pauli.proofs.Bools.{T-left, T-right}
 use Rattle.pauli.proofs.Every.{everyP, atP}
-use Rattle.pauli.proofs.Lists.{length-each}
 use Rattle.pauli.proofs.OnQubits.{length-on, take-same, on-mul, total-on}
 use Rattle.pauli.proofs.Phases.{phases-swap, mul-comm}
 use Rattle.pauli.proofs.RowLaws.{phase-I, both-of, pad-at, pad-mul, row-eq}

@@ -2,21 +2,21 @@
 use mathlib.Core.Path.{_≡_, refl, sym, ap, ap₂, _∙_, subst}
 use mathlib.Core.Bool.{Bool, true, false, cond, Bool·beq, _&&_}
 use mathlib.Core.List.{List, [], _∷_}
-use Prim.Native.Nat.{ℕ, zero, suc, _+_, _<_}
+use Prim.Native.Nat.{ℕ, zero, suc, _<_}
 use native.Mathlib.Nat.{suc-inj, not-suc-le-zero, le-of-suc-le-suc}
 use native.Mathlib.Omega.{arith}
 use lib.ListN.{length, getD, set, length-set}
-use lib.IntN.{ℤ, +ℤ-idl, +ℤ-idr}
-use Rattle.pauli.specs.Gauss.{Gauss, _⊕_, _⊗_, g0, g1, gi, ipow}
+use lib.IntN.{+ℤ-idl, +ℤ-idr}
+use Rattle.pauli.specs.Gauss.{Gauss, _⊕_, _⊗_, g0}
 use Rattle.pauli.specs.Matrix.{Matrix, entry, matrix, sum, times, sameState}
 use Rattle.pauli.specs.Pauli.{Pauli}
 use Rattle.pauli.specs.declared.PauliMatrix.the-variants.{I}
-use Rattle.pauli.proofs.GaussRing.{by-parts, ⊗-comm, ⊗-assoc, ⊕-⊗, ⊗-⊕, ⊗-four, g1-⊗, g0-⊗}
+use Rattle.pauli.proofs.GaussRing.{by-parts, ⊗-comm, ⊗-assoc, g1-⊗, g0-⊗}
 use Rattle.pauli.proofs.IntRing.{add4}
 use Rattle.pauli.proofs.Products.{sum-scale, sum-ext}
-use Rattle.gates.specs.Places.{at, put, blank, Fresh, Places}
+use Rattle.gates.specs.Places.{at, put, blank, Places}
 use Rattle.gates.specs.Matrices.{lift}
-use Rattle.gates.proofs.Spots.{at-set, put-set, blank-set, getD-blank, length-put, length-blank, length-at, at-put, put-at, blank-put}
+use Rattle.gates.proofs.Spots.{put-set, blank-set, getD-blank, length-put, length-blank, length-at, at-put, put-at, blank-put}
 
 -- ---- sums
 

@@ -1,6 +1,6 @@
 -- RULES 14.2: the matrices of the gates on n qubits, each from its small one on the qubits that it touches. Assumes nothing.
 use mathlib.Core.Bool.{Bool, true, false, cond, Bool·beq, _&&_}
-use mathlib.Core.List.{List, [], _∷_}
+use mathlib.Core.List.{List}
 use lib.ListN.{getD}
 use Prim.Native.Nat.{ℕ}
 use Rattle.pauli.specs.Gauss.{Gauss, _⊕_, minus, g0, g1, gi}

@@ -1,21 +1,20 @@
 -- One row of a set changed: the memory laid from the rows with row r changed by f is a row set again, and holds these rows; two changes of the same row
 -- are one. What is laid is given by the rows below m alone. Assumes nothing.
 use mathlib.Core.Path.{_≡_, refl, sym, ap, ap₂, _∙_, subst}
-use mathlib.Core.Bool.{Bool, true, false, cond}
-use mathlib.Core.List.{List, [], _∷_}
-use Prim.Native.Nat.{ℕ, zero, suc, _+_, _*_, _≤_, _<_, suc-le-suc}
+use mathlib.Core.Bool.{Bool, cond}
+use mathlib.Core.List.{List, _∷_}
+use Prim.Native.Nat.{ℕ, zero, suc, _*_, _≤_, _<_, suc-le-suc}
 use native.Mathlib.Nat.{zero-lt-suc}
 use native.Mathlib.Decide.{ℕ-discrete}
 use native.Mathlib.Omega.{arith}
 use borrow.Author.Tests.{eq-eqb, ne-eqb}
-use lib.Dec.{eqb}
-use lib.ListN.{length, getD}
-use Rattle.pauli.specs.Pauli.{Pauli, hasX, hasZ}
+use lib.ListN.{length}
+use Rattle.pauli.specs.Pauli.{hasX, hasZ}
 use Rattle.pauli.specs.Row.{Row}
 use Rattle.encoding.specs.Limits.{maxRows, wordsOf}
 use Rattle.encoding.specs.Words.{layRows}
 use Rattle.encoding.specs.Set.{Mem, count, rowsIn, rowsOf, list, layIn, lay, Valid, Sound}
-use Rattle.encoding.proofs.Memory.{Proper, row-count, read-lay, valid-lay, count-lay}
+use Rattle.encoding.proofs.Memory.{row-count, read-lay, valid-lay, count-lay}
 use Rattle.one_qubit.specs.Leaves.{atRow}
 
 module _ (σ : ℕ → Row) (r : ℕ) (f : Row → Row) (k : ℕ) where

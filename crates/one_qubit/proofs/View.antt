@@ -3,7 +3,7 @@
 use mathlib.Core.Path.{_≡_, refl, sym, ap, ap₂, _∙_, subst}
 use mathlib.Core.Bool.{Bool, true, false, cond}
 use mathlib.Core.List.{List, []}
-use Prim.Native.Nat.{ℕ, _+_, _*_, _/_, _%_, _≤_, _<_}
+use Prim.Native.Nat.{ℕ, _+_, _*_, _/_, _%_, _<_}
 use native.Mathlib.Nat.{div-add-mod'}
 use native.Mathlib.Decide.{ℕ-discrete, decLt}
 use native.Mathlib.Omega.{arith}
@@ -14,8 +14,8 @@ use Rattle.pauli.specs.declared.PauliMatrix.the-variants.{I}
 use Rattle.pauli.specs.Row.{Row}
 use Rattle.pauli.proofs.RowLaws.{both-of}
 use Rattle.encoding.specs.Limits.{wordsOf}
-use Rattle.encoding.specs.Words.{bitAt, withBit, unpack, layRows}
-use Rattle.encoding.specs.Set.{Mem, mem, count, rowsIn, rowsOf, list, layIn, lay, QubitSet, Valid, Sound}
+use Rattle.encoding.specs.Words.{bitAt, withBit, layRows}
+use Rattle.encoding.specs.Set.{Mem, mem, count, rowsIn, rowsOf, list, layIn, lay, QubitSet, Sound}
 use Rattle.encoding.proofs.BitLaws.{lay-of, bit-lay}
 use Rattle.encoding.proofs.Memory.{mem-eq, row-count, lay-back}
 use Rattle.encoding.proofs.Parts.{row-end, length-list, getD-list}

@@ -1,15 +1,14 @@
+-- `clifford::all_rows` meets its contract. Invariant: lengths are as at the start, rows below r are conjugated and the others as they were (`Doing`); the
+-- contract of `gate_row` moves it by one row, and at the end it is every row. Assumes nothing.
 use borrow.Author.Needs.{needs}
 use native.Mathlib.Omega.{arith}
-use mathlib.Core.Path.{_≡_, refl, sym, _∙_}
-use Prim.Native.Nat.{ℕ, _-_, _<_, _≤_}
+use mathlib.Core.Path.{_≡_, refl, _∙_}
+use Prim.Native.Nat.{_-_, _≤_}
 use lib.ListN.{length}
 use Rattle.encoding.specs.Set.{mem}
 use Rattle.clifford.proofs.Loop.{Doing, doing-none, doing-more, doing-all}
 use Rattle.clifford.proofs.all_rows.Statement.{statement}
 use Rattle.clifford.proofs.all_rows.Tie as tie
-use Rattle.clifford.proofs.all_rows.Reads as reads
-use Rattle.clifford.proofs.all_rows.Lts as lts
-use Rattle.clifford.proofs.gate_row.Reads as gate-row-reads
 
 abbrev Inv-loop : tie.InvT-loop
 Inv-loop n x₀ z₀ phases₀ g m r₀ x z phases r =

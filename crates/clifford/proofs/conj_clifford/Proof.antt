@@ -1,5 +1,6 @@
+-- `clifford::conj_clifford` meets its contract: the number is the table's, and 0 says that the set and the gate may be worked on. A refusal leaves what
+-- was there, and `all_rows` the rest. Assumes nothing.
 use borrow.Author.Needs.{needs}
-use native.Mathlib.Omega.{arith}
 use mathlib.Core.Path.{refl, _∙_}
 use Prim.Native.Nat.{ℕ}
 use Rattle.encoding.specs.declared.Answer.the-variants.{Refused}
@@ -9,10 +10,6 @@ use Rattle.encoding.proofs.Faults.{refusing, passing}
 use Rattle.gates.specs.Gates.{conjRows}
 use Rattle.clifford.proofs.conj_clifford.Statement.{statement}
 use Rattle.clifford.proofs.conj_clifford.Tie as tie
-use Rattle.clifford.proofs.conj_clifford.Reads as reads
-use Rattle.clifford.proofs.conj_clifford.Lts as lts
-use Rattle.clifford.proofs.all_rows.Reads as all-rows-reads
-use Rattle.clifford.proofs.gate_fault.Reads as gate-fault-reads
 
 returns : tie.Need-returns
 returns c =

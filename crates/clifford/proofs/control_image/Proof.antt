@@ -1,13 +1,10 @@
+-- `clifford::control_image` meets its contract. Assumes nothing.
 use borrow.Author.Needs.{needs}
-use native.Mathlib.Omega.{arith}
 use mathlib.Core.Path.{sym, ap, _∙_}
 use Rattle.clifford.specs.Workers.{controlImage}
 use Rattle.clifford.proofs.Images.{still-z}
 use Rattle.clifford.proofs.control_image.Statement.{statement}
 use Rattle.clifford.proofs.control_image.Tie as tie
-use Rattle.clifford.proofs.control_image.Reads as reads
-use Rattle.clifford.proofs.control_image.Lts as lts
-use Rattle.clifford.proofs.other_z.Reads as other-z-reads
 
 returns : tie.Need-returns
 returns c = let p = c .before .before .args .p in still-z p ∙ ap (controlImage p) (sym (c .enum-told .given .1))

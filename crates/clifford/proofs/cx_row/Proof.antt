@@ -1,12 +1,8 @@
+-- `clifford::cx_row` meets its contract. Assumes nothing.
 use borrow.Author.Needs.{needs}
-use native.Mathlib.Omega.{arith}
 use Rattle.clifford.proofs.Rows.{cx-done}
 use Rattle.clifford.proofs.cx_row.Statement.{statement}
 use Rattle.clifford.proofs.cx_row.Tie as tie
-use Rattle.clifford.proofs.cx_row.Reads as reads
-use Rattle.clifford.proofs.cx_row.Lts as lts
-use Rattle.clifford.proofs.set_both.Reads as set-both-reads
-use Rattle.one_qubit.proofs.get_pauli_unchecked.Reads as get-pauli-unchecked-reads
 
 returns : tie.Need-returns
 returns c =

@@ -1,15 +1,11 @@
+-- `clifford::cx_turns` meets its contract. Assumes nothing.
 use borrow.Author.Needs.{needs}
-use native.Mathlib.Omega.{arith}
 use mathlib.Core.Path.{sym, ap, _∙_}
 use Rattle.pauli.specs.Pauli.{Pauli}
 use Rattle.clifford.specs.Workers.{cxTurns}
 use Rattle.clifford.proofs.Images.{turns-x, turns-y}
 use Rattle.clifford.proofs.cx_turns.Statement.{statement}
 use Rattle.clifford.proofs.cx_turns.Tie as tie
-use Rattle.clifford.proofs.cx_turns.Reads as reads
-use Rattle.clifford.proofs.cx_turns.Lts as lts
-use Rattle.clifford.proofs.is_y.Reads as is-y-reads
-use Rattle.clifford.proofs.is_z.Reads as is-z-reads
 
 returns-2 : tie.Need-returns-2
 returns-2 c =

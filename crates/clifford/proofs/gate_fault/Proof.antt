@@ -1,15 +1,10 @@
+-- `clifford::gate_fault` meets its contract: a number of the set comes first, then 6, then 21, which is the order of the lines; 0 leaves a row set and
+-- different qubits below n. Assumes nothing.
 use borrow.Author.Needs.{needs}
-use native.Mathlib.Omega.{arith}
 use Rattle.encoding.specs.Set.{mem}
 use Rattle.clifford.proofs.Tests.{set-number, gate-number, gate-ready}
 use Rattle.clifford.proofs.gate_fault.Statement.{statement}
 use Rattle.clifford.proofs.gate_fault.Tie as tie
-use Rattle.clifford.proofs.gate_fault.Reads as reads
-use Rattle.clifford.proofs.gate_fault.Lts as lts
-use Rattle.clifford.proofs.large_qubit.Reads as large-qubit-reads
-use Rattle.clifford.proofs.one_qubit_twice.Reads as one-qubit-twice-reads
-use Rattle.encoding.proofs.pick.Reads as pick-reads
-use Rattle.encoding.proofs.set_fault.Reads as set-fault-reads
 
 returns : tie.Need-returns
 returns c =

@@ -1,5 +1,6 @@
+-- `clifford::gate_row` meets its contract: each arm has the contract of its own function, at the gate that the match has found, so what is asked and what
+-- is left is carried over along that equation. Assumes nothing.
 use borrow.Author.Needs.{needs}
-use native.Mathlib.Omega.{arith}
 use mathlib.Core.Path.{sym, ap, _∙_, subst}
 use Rattle.encoding.specs.Set.{mem, count, rowsOf, lay}
 use Rattle.gates.specs.Gates.{conjRow}
@@ -8,11 +9,6 @@ use Rattle.one_qubit.specs.Leaves.{atRow}
 use Rattle.clifford.specs.Workers.{RowReady}
 use Rattle.clifford.proofs.gate_row.Statement.{statement}
 use Rattle.clifford.proofs.gate_row.Tie as tie
-use Rattle.clifford.proofs.gate_row.Reads as reads
-use Rattle.clifford.proofs.gate_row.Lts as lts
-use Rattle.clifford.proofs.cx_row.Reads as cx-row-reads
-use Rattle.clifford.proofs.h_row.Reads as h-row-reads
-use Rattle.clifford.proofs.s_row.Reads as s-row-reads
 
 h-row-requires : tie.Need-h-row-requires
 h-row-requires c κs =

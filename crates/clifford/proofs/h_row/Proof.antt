@@ -1,14 +1,8 @@
+-- `clifford::h_row` meets its contract. Assumes nothing.
 use borrow.Author.Needs.{needs}
-use native.Mathlib.Omega.{arith}
 use Rattle.clifford.proofs.Rows.{h-done}
 use Rattle.clifford.proofs.h_row.Statement.{statement}
 use Rattle.clifford.proofs.h_row.Tie as tie
-use Rattle.clifford.proofs.h_row.Reads as reads
-use Rattle.clifford.proofs.h_row.Lts as lts
-use Rattle.clifford.proofs.h_image.Reads as h-image-reads
-use Rattle.clifford.proofs.is_y.Reads as is-y-reads
-use Rattle.clifford.proofs.set_turned.Reads as set-turned-reads
-use Rattle.one_qubit.proofs.get_pauli_unchecked.Reads as get-pauli-unchecked-reads
 
 returns : tie.Need-returns
 returns c =

@@ -1,11 +1,9 @@
+-- `clifford::large_qubit` meets its contract. Assumes nothing.
 use borrow.Author.Needs.{needs}
-use native.Mathlib.Omega.{arith}
-use mathlib.Core.Path.{sym, ap, _∙_}
+use mathlib.Core.Path.{sym, ap}
 use Rattle.clifford.specs.Calls.{largeQubit}
 use Rattle.clifford.proofs.large_qubit.Statement.{statement}
 use Rattle.clifford.proofs.large_qubit.Tie as tie
-use Rattle.clifford.proofs.large_qubit.Reads as reads
-use Rattle.clifford.proofs.large_qubit.Lts as lts
 
 returns : tie.Need-returns
 returns c = ap (largeQubit (c .before .before .before .before .args .n)) (sym (c .before .before .g .given .1))

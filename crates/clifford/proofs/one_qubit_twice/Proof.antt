@@ -1,11 +1,9 @@
+-- `clifford::one_qubit_twice` meets its contract. Assumes nothing.
 use borrow.Author.Needs.{needs}
-use native.Mathlib.Omega.{arith}
-use mathlib.Core.Path.{sym, ap, _∙_}
+use mathlib.Core.Path.{sym, ap}
 use Rattle.clifford.specs.Calls.{oneQubit}
 use Rattle.clifford.proofs.one_qubit_twice.Statement.{statement}
 use Rattle.clifford.proofs.one_qubit_twice.Tie as tie
-use Rattle.clifford.proofs.one_qubit_twice.Reads as reads
-use Rattle.clifford.proofs.one_qubit_twice.Lts as lts
 
 returns : tie.Need-returns
 returns c = ap oneQubit (sym (c .before .g .given .1))

@@ -1,14 +1,8 @@
+-- `clifford::s_row` meets its contract. Assumes nothing.
 use borrow.Author.Needs.{needs}
-use native.Mathlib.Omega.{arith}
 use Rattle.clifford.proofs.Rows.{s-done}
 use Rattle.clifford.proofs.s_row.Statement.{statement}
 use Rattle.clifford.proofs.s_row.Tie as tie
-use Rattle.clifford.proofs.s_row.Reads as reads
-use Rattle.clifford.proofs.s_row.Lts as lts
-use Rattle.clifford.proofs.is_y.Reads as is-y-reads
-use Rattle.clifford.proofs.s_image.Reads as s-image-reads
-use Rattle.clifford.proofs.set_turned.Reads as set-turned-reads
-use Rattle.one_qubit.proofs.get_pauli_unchecked.Reads as get-pauli-unchecked-reads
 
 returns : tie.Need-returns
 returns c =

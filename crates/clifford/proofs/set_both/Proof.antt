@@ -1,15 +1,9 @@
+-- `clifford::set_both` meets its contract: after the target the memory is a row set still, and two changes of one row are one. The paths are those of the
+-- target's and the control's images and of the sign. Assumes nothing.
 use borrow.Author.Needs.{needs}
-use native.Mathlib.Omega.{arith}
 use Rattle.clifford.proofs.Rows.{target-set, both-set}
 use Rattle.clifford.proofs.set_both.Statement.{statement}
 use Rattle.clifford.proofs.set_both.Tie as tie
-use Rattle.clifford.proofs.set_both.Reads as reads
-use Rattle.clifford.proofs.set_both.Lts as lts
-use Rattle.clifford.proofs.control_image.Reads as control-image-reads
-use Rattle.clifford.proofs.cx_turns.Reads as cx-turns-reads
-use Rattle.clifford.proofs.set_turned.Reads as set-turned-reads
-use Rattle.clifford.proofs.target_image.Reads as target-image-reads
-use Rattle.one_qubit.proofs.set_pauli_unchecked.Reads as set-pauli-unchecked-reads
 
 set-turned-requires : tie.Need-set-turned-requires
 set-turned-requires c κs =

@@ -1,16 +1,12 @@
+-- `clifford::set_turned` meets its contract: the leaf sets the qubit, and the byte is the old one with two more or none, mod 4. The words that the leaf
+-- left are of 64 bits, as all lent words are. Assumes nothing.
 use borrow.Author.Needs.{needs}
-use native.Mathlib.Omega.{arith}
 use mathlib.Core.Path.{ap, _∙_}
 use Prim.Native.Nat.{ℕ, _+_, _%_}
 use lib.ListN.{getD}
 use Rattle.clifford.proofs.Rows.{turned-set}
 use Rattle.clifford.proofs.set_turned.Statement.{statement}
 use Rattle.clifford.proofs.set_turned.Tie as tie
-use Rattle.clifford.proofs.set_turned.Reads as reads
-use Rattle.clifford.proofs.set_turned.Lts as lts
-use Rattle.clifford.proofs.sign.Reads as sign-reads
-use Rattle.one_qubit.proofs.set_pauli_unchecked.Reads as set-pauli-unchecked-reads
-use Rattle.products.proofs.add_signs.Reads as add-signs-reads
 
 returns : tie.Need-returns
 returns c =

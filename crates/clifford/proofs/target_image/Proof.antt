@@ -1,14 +1,11 @@
+-- `clifford::target_image` meets its contract. Assumes nothing.
 use borrow.Author.Needs.{needs}
-use native.Mathlib.Omega.{arith}
 use mathlib.Core.Path.{sym, ap, _∙_}
 use Rattle.pauli.specs.Pauli.{Pauli}
 use Rattle.clifford.specs.Workers.{targetImage}
 use Rattle.clifford.proofs.Images.{still-x}
 use Rattle.clifford.proofs.target_image.Statement.{statement}
 use Rattle.clifford.proofs.target_image.Tie as tie
-use Rattle.clifford.proofs.target_image.Reads as reads
-use Rattle.clifford.proofs.target_image.Lts as lts
-use Rattle.clifford.proofs.other_x.Reads as other-x-reads
 
 returns : tie.Need-returns
 returns c = let q = c .before .before .args .q in still-x q ∙ ap (λ (p : Pauli). targetImage p q) (sym (c .enum-told .given .1))

@@ -1,21 +1,14 @@
+-- `one_qubit::get_pauli_unchecked` meets its contract. Assumes nothing.
 use borrow.Author.Needs.{needs}
-use native.Mathlib.Omega.{arith}
-use mathlib.Core.List.{List}
 use mathlib.Core.Path.{sym, ap, _∙_}
 use Prim.Native.Nat.{ℕ}
 use lib.ListN.{getD}
 use borrow.Author.Tests.{not-true, not-false}
-use Rattle.pauli.specs.Pauli.{Pauli}
 use Rattle.pauli.specs.declared.PauliMatrix.the-variants.{I}
 use Rattle.encoding.specs.Words.{unpack}
 use Rattle.one_qubit.proofs.Limits.{limits-of, pauli-in, pauli-past}
 use Rattle.one_qubit.proofs.get_pauli_unchecked.Statement.{statement}
 use Rattle.one_qubit.proofs.get_pauli_unchecked.Tie as tie
-use Rattle.one_qubit.proofs.get_pauli_unchecked.Reads as reads
-use Rattle.one_qubit.proofs.get_pauli_unchecked.Lts as lts
-use Rattle.encoding.proofs.get_qubit.Reads as get-qubit-reads
-use Rattle.one_qubit.proofs.in_limits.Reads as in-limits-reads
-use Rattle.one_qubit.proofs.place.Reads as place-reads
 
 returns : tie.Need-returns
 returns c =

@@ -1,3 +1,4 @@
+-- `one_qubit::place` meets its contract. Assumes nothing.
 use borrow.Author.Needs.{needs}
 use native.Mathlib.Omega.{arith}
 use Rattle.one_qubit.proofs.Limits.{place-small}
@@ -5,9 +6,6 @@ use mathlib.Core.Path.{ap}
 use Prim.Native.Nat.{ℕ, _+_, _*_}
 use Rattle.one_qubit.proofs.place.Statement.{statement}
 use Rattle.one_qubit.proofs.place.Tie as tie
-use Rattle.one_qubit.proofs.place.Reads as reads
-use Rattle.one_qubit.proofs.place.Lts as lts
-use Rattle.encoding.proofs.words.Reads as words-reads
 
 mul-t5 : tie.Need-mul-t5
 mul-t5 c = let s = c .before in omega (arith, place-small (s .args .n) (s .args .r) (s .pre .0) (s .pre .1) (c .words .ensures))

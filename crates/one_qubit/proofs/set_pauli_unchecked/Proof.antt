@@ -1,18 +1,12 @@
+-- `one_qubit::set_pauli_unchecked` meets its contract. Assumes nothing.
 use borrow.Author.Needs.{needs}
-use native.Mathlib.Omega.{arith}
-use mathlib.Core.List.{List}
-use mathlib.Core.Path.{sym, ap, _∙_, subst}
+use mathlib.Core.Path.{sym, _∙_, subst}
 use Prim.Native.Nat.{ℕ}
 use borrow.Author.Tests.{not-true, not-false}
 use Rattle.encoding.specs.Set.{QubitSet}
 use Rattle.one_qubit.proofs.Limits.{limits-of, set-within, set-past}
 use Rattle.one_qubit.proofs.set_pauli_unchecked.Statement.{statement}
 use Rattle.one_qubit.proofs.set_pauli_unchecked.Tie as tie
-use Rattle.one_qubit.proofs.set_pauli_unchecked.Reads as reads
-use Rattle.one_qubit.proofs.set_pauli_unchecked.Lts as lts
-use Rattle.encoding.proofs.set_qubit.Reads as set-qubit-reads
-use Rattle.one_qubit.proofs.in_limits.Reads as in-limits-reads
-use Rattle.one_qubit.proofs.place.Reads as place-reads
 
 returns : tie.Need-returns
 returns c =
