@@ -250,12 +250,17 @@ fn gates(set: &Set) {
     const GATES: [(&str, Ours, Rust); 3] = [
         ("conj_clifford, H", |set, q| ours::conj_h(set, q), clifford::h),
         ("conj_clifford, S", |set, q| ours::conj_s(set, q), clifford::s),
-        ("conj_clifford, CX", |set, q| ours::conj_cx(set, q, q + 500), |q| clifford::cx(q, q + 500).expect("two qubits")),
+        (
+            "conj_clifford, CX",
+            |set, q| ours::conj_cx(set, q, q + 500),
+            |q| clifford::cx(q, q + 500).expect("two qubits"),
+        ),
     ];
     for (name, gate, rust_gate) in GATES {
         let (mut ours, mut rust) = (set.clone(), set.terms());
         let sweep = |set: &mut Set| (64..128).for_each(|q| assert_eq!(gate(set, black_box(q)), 0));
-        let rust_sweep = |set: &mut Terms<ComplexSign>| (64..128).for_each(|q| set.conj_clifford(rust_gate(black_box(q))));
+        let rust_sweep =
+            |set: &mut Terms<ComplexSign>| (64..128).for_each(|q| set.conj_clifford(rust_gate(black_box(q))));
         sweep(&mut ours);
         rust_sweep(&mut rust);
         agree(name, text(&ours), fields::set_text(&rust));

@@ -78,6 +78,6 @@ module _ (n : ℕ) (g : Gate) {M M′ R R′ : Mem} (es : List Entry) (into : Al
       ∙ ap (λ (m : ℕ). lay n m (conjRows n g (rowsOf n R))) same-count
       ∙ lay-same n (count M) (conjRows n g (rowsOf n R)) (replay (mulRow n) (rowsOf n M′) es)
       (λ k h.
-      ap (conjRow n g) (ap (λ (N : Mem). rowsOf n N k) done ∙ read-lay n (wordsOf n) (count M) (replay (mulRow n) (rowsOf n M) es) wide k h (proper .long k h))
+      ap (conjRow n g) (ap (λ (N : Mem). rowsOf n N k) done ∙ read-lay n (wordsOf n) (count M) (replay (mulRow n) (rowsOf n M) es) wide k h (proper .long k h) (proper .small k h))
       ∙ replay-kept n g (places n g c) es (rowsOf n M) k
       ∙ replay-same n (count M) es (conjRows n g (rowsOf n M)) (rowsOf n M′) into (λ j l. sym (rows-are n g c j l)) k h)

@@ -19,8 +19,8 @@ use Rattle.encoding.specs.declared.Answer.the-variants.{Done, Refused}
 use Rattle.encoding.proofs.Again.{lay-passes}
 use Rattle.encoding.proofs.Faults.{or-none, joined-fault, done-none}
 use Rattle.encoding.proofs.Memory.{within-limits, read-lay, count-lay, lay-back}
-use Rattle.terms.specs.Ranks.{numbered}
-use Rattle.terms.proofs.Ranks.{Given, given-iff}
+use Rattle.encoding.specs.Ranks.{numbered}
+use Rattle.encoding.proofs.Ranks.{Given, given-iff}
 use Rattle.cmpnt_list.specs.Calls.{matrixTests, matrixFault, laidMatrix, commuting, CompatibilityMatrix}
 use Rattle.gates.specs.Places.{Places}
 use Rattle.gates.specs.Gates.{touched, conjRow, conjRows, order, repeat}
@@ -70,7 +70,7 @@ module _ (n : ℕ) (g : Gate) {M M′ : Mem} (c : Conjugates n g M M′ Done) wh
   pub rows-are : (k : ℕ) → k < count M → rowsOf n M′ k ≡ conjRow n g (rowsOf n M k)
   rows-are k h =
       ap (λ (N : Mem). rowsOf n N k) laid
-      ∙ read-lay n (wordsOf n) (count M) (conjRows n g (rowsOf n M)) wide k h (fine-conj n g (rowsOf n M k) .0)
+      ∙ read-lay n (wordsOf n) (count M) (conjRows n g (rowsOf n M)) wide k h (fine-conj n g (rowsOf n M k) .0) (fine-conj n g (rowsOf n M k) .1)
 
   -- gate, the old row's matrix and the inverse gate are the new row's matrix, phases included; twice it for H
   pub matrices : (k : ℕ) → k < count M

@@ -1,13 +1,12 @@
 -- One row of a set under a gate: what the leaves read and set is the row conjugated. A row of n qubits is its own list on n qubits, so `conjRow` is `conj`
 -- and `sign` of its Paulis; both are given by the Paulis that were read. Assumes nothing.
-use mathlib.Core.Path.{_≡_, sym, ap, ap₂, _∙_, subst}
+use mathlib.Core.Path.{_≡_, refl, sym, ap, ap₂, _∙_}
 use mathlib.Core.Bool.{Bool, cond, _&&_}
 use mathlib.Core.List.{List}
 use Prim.Native.Nat.{ℕ, _+_, _%_, _<_}
 use native.Mathlib.Decide.{ℕ-discrete}
 use native.Mathlib.Omega.{arith}
 use lib.ListN.{length, getD, set, length-set}
-use lib.Seq.{ext-getD, getD-set-same, getD-set-other}
 use Rattle.pauli.specs.Matrix.{onQubits}
 use Rattle.pauli.specs.Pauli.{Pauli, ofBits, hasX, hasZ}
 use Rattle.pauli.specs.declared.PauliMatrix.the-variants.{I}
@@ -17,9 +16,9 @@ use Rattle.pauli.proofs.OnQubits.{length-on, on-same}
 use Rattle.pauli.proofs.RowLaws.{row-eq}
 use Rattle.encoding.specs.Limits.{wordsOf}
 use Rattle.encoding.specs.Words.{layRows}
-use Rattle.encoding.specs.Set.{Mem, mem, count, rowsIn, rowsOf, list, layIn}
+use Rattle.encoding.specs.Set.{Mem, memOf, count, phaseUnits, exponentAt, withExponent, layExponents, rowsIn, rowsOf, list, layIn}
 use Rattle.encoding.proofs.Memory.{mem-eq}
-use Rattle.encoding.proofs.Parts.{length-list, getD-list}
+use Rattle.encoding.proofs.Exponents.{laid-long, laid-from, units-with, exponent-same, exponent-other}
 use Rattle.encoding.proofs.WordLaws.{Fit}
 use Rattle.gates.specs.Gates.{differ, conj, sign, conjRow}
 use Rattle.gates.specs.declared.Gate.{Gate}
@@ -30,13 +29,13 @@ use Rattle.one_qubit.proofs.OneRow.{row-here, row-other, list-same, Fine, fine-
 use Rattle.one_qubit.proofs.View.{pauli-view, set-view}
 use Rattle.clifford.specs.Workers.{RowReady, QubitReady, Changed, turnedWith, controlImage, targetImage, cxTurns, withBoth}
 
--- ---- one qubit set, and the phase byte
+-- ---- one qubit set, and the exponent
 
 module _ (n r q : ℕ) {M : Mem} (d : QubitReady n r q M) (p : Pauli) {xs′ zs′ : List ℕ} (c : PauliSet n r q p (M .xs) (M .zs) xs′ zs′) (fx : Fit xs′) (fz : Fit zs′) where
-  pub pauli-set : Changed n r (withPauli q p) M (mem xs′ zs′ (M .es))
+  pub pauli-set : Changed n r (withPauli q p) M (memOf (count M) xs′ zs′ (M .es))
   pauli-set = set-view n (d .sound) r q (d .row-in) (d .qubit-in) p c fx fz
 
-  module _ (b : Bool) {v : ℕ} (ev : v ≡ (getD (M .es) r 0 + cond b 2 0 + 0) % 4) where
+  module _ (b : Bool) {v : ℕ} (ev : v ≡ (exponentAt (M .es) r + cond b 2 0 + 0) % 4) where
     σ : ℕ → Row
     σ = rowsOf n M
 
@@ -47,29 +46,31 @@ module _ (n r q : ℕ) {M : Mem} (d : QubitReady n r q M) (p : Pauli) {xs′ zs�
         go k (yes e) = ap (λ (x : Row). x .ps) (row-here (rowsOf n M) r (withPauli q p) k e) ∙ ap (λ (x : Row). x .ps) (sym (row-here (rowsOf n M) r (turnedWith q p b) k e))
         go k (no ne) = ap (λ (x : Row). x .ps) (row-other (rowsOf n M) r (withPauli q p) k ne) ∙ ap (λ (x : Row). x .ps) (sym (row-other (rowsOf n M) r (turnedWith q p b) k ne))
 
-    bytes : set (M .es) r v ≡ list (count M) (λ k. atRow (rowsOf n M) r (turnedWith q p b) k .p)
+    es-long : length (M .es) ≡ phaseUnits (count M)
+    es-long = laid-long (count M) (d .sound .valid .exponents)
+
+    low : v < 4
+    low = omega arith
+
+    exponents : withExponent (M .es) r v ≡ layExponents (count M) (λ k. atRow (rowsOf n M) r (turnedWith q p b) k .p)
     unfolding rowsIn
-    bytes =
-        let m = count M in
-        let τ : ℕ → ℕ = λ k. atRow (rowsOf n M) r (turnedWith q p b) k .p in
-        ext-getD 0 (set (M .es) r v) (list m τ) (length-set (M .es) r v ∙ sym (length-list m τ))
-        (λ k h. let l : k < m = subst (λ (j : ℕ). k < j) (length-set (M .es) r v) h in go k (ℕ-discrete k r) ∙ sym (getD-list m τ k 0 l))
+    exponents = laid-from (count M) (λ k. atRow (rowsOf n M) r (turnedWith q p b) k .p) (units-with (M .es) r v ∙ es-long) (λ k _. go k (ℕ-discrete k r))
       where
-        go : (k : ℕ) → Dec (k ≡ r) → getD (set (M .es) r v) k 0 ≡ atRow (rowsOf n M) r (turnedWith q p b) k .p
+        go : (k : ℕ) → Dec (k ≡ r) → exponentAt (withExponent (M .es) r v) k ≡ atRow (rowsOf n M) r (turnedWith q p b) k .p
         go k (yes e) =
-            ap (λ (j : ℕ). getD (set (M .es) r v) j 0) e ∙ getD-set-same (M .es) r v 0 (d .row-in) ∙ ev
-            ∙ plus (getD (M .es) r 0) (cond b 2 0)
-            ∙ ap (λ (j : ℕ). (getD (M .es) j 0 + cond b 2 0) % 4) (sym e)
+            ap (λ (j : ℕ). exponentAt (withExponent (M .es) r v) j) e ∙ exponent-same (M .es) r v es-long (d .row-in) low ∙ ev
+            ∙ plus (exponentAt (M .es) r) (cond b 2 0)
+            ∙ ap (λ (j : ℕ). (exponentAt (M .es) j + cond b 2 0) % 4) (sym e)
             ∙ sym (ap (λ (x : Row). x .p) (row-here (rowsOf n M) r (turnedWith q p b) k e))
           where
             plus : (a e : ℕ) → (a + e + 0) % 4 ≡ (a + e) % 4
             plus a e = omega arith
-        go k (no ne) = getD-set-other (M .es) r k v 0 ne ∙ sym (ap (λ (x : Row). x .p) (row-other (rowsOf n M) r (turnedWith q p b) k ne))
+        go k (no ne) = exponent-other (M .es) r v k ne ∙ sym (ap (λ (x : Row). x .p) (row-other (rowsOf n M) r (turnedWith q p b) k ne))
 
-    pub turned-set : Changed n r (turnedWith q p b) M (mem xs′ zs′ (set (M .es) r v))
+    pub turned-set : Changed n r (turnedWith q p b) M (memOf (count M) xs′ zs′ (withExponent (M .es) r v))
     unfolding layIn
     turned-set =
-        mem-eq (ap (λ (N : Mem). N .xs) pauli-set ∙ ap (layRows hasX (wordsOf n)) same-paulis) (ap (λ (N : Mem). N .zs) pauli-set ∙ ap (layRows hasZ (wordsOf n)) same-paulis) bytes
+        mem-eq refl (ap (λ (N : Mem). N .xs) pauli-set ∙ ap (layRows hasX (wordsOf n)) same-paulis) (ap (λ (N : Mem). N .zs) pauli-set ∙ ap (layRows hasZ (wordsOf n)) same-paulis) exponents
 
 -- ---- a row conjugated
 
@@ -117,7 +118,7 @@ module _ (n r : ℕ) {M : Mem} (c t : QubitNumber) (d : RowReady n r (gate.CX c 
     fine : Fine n (withPauli (t .0) p (rowsOf n M r))
     fine = let f = fine-rows n (d .ready .sound) r (d .row-in) in (length-set (rowsOf n M r .ps) (t .0) p ∙ f .0, f .1)
 
-    pub target-set : QubitReady n r (c .0) (mem xs′ zs′ (M .es))
+    pub target-set : QubitReady n r (c .0) (memOf (count M) xs′ zs′ (M .es))
     target-set =
         let s = d .ready .sound in
         record {
@@ -127,7 +128,7 @@ module _ (n r : ℕ) {M : Mem} (c t : QubitNumber) (d : RowReady n r (gate.CX c 
         }
 
     pub both-set : {M′ : Mem} {i : Pauli} {b : Bool} (a a′ : Pauli) → p ≡ targetImage a a′ → i ≡ controlImage a a′ → b ≡ cxTurns a a′
-        → Changed n r (turnedWith (c .0) i b) (mem xs′ zs′ (M .es)) M′ → Changed n r (withBoth (c .0) (t .0) a a′) M M′
+        → Changed n r (turnedWith (c .0) i b) (memOf (count M) xs′ zs′ (M .es)) M′ → Changed n r (withBoth (c .0) (t .0) a a′) M M′
     both-set {M′} {i} {b} a a′ ep ei eb e =
         at-again n (d .ready .sound) r (withPauli (t .0) p) (turnedWith (c .0) i b) (d .row-in) fine (pauli-set n r (t .0) target-ready p k fx fz) e
         ∙ at-same n (count M) (rowsOf n M) r (λ x. turnedWith (c .0) i b (withPauli (t .0) p x)) (withBoth (c .0) (t .0) a a′)

@@ -11,8 +11,8 @@ use Rattle.encoding.specs.Refusals.{fault, setTests}
 use Rattle.encoding.proofs.Faults.{orElse, or-first, not-large}
 use Rattle.encoding.proofs.Scan.{none-of}
 use Rattle.encoding.proofs.Sets.{sound-of}
-use Rattle.terms.specs.Ranks.{byRank}
-use Rattle.terms.proofs.Ranks.{ranked}
+use Rattle.encoding.specs.Ranks.{byRank}
+use Rattle.encoding.proofs.Ranks.{ranked}
 use Rattle.gates.specs.Places.{Places}
 use Rattle.gates.specs.Gates.{touched}
 use Rattle.gates.specs.declared.Gate.{Gate}

@@ -8,7 +8,7 @@ use lib.Dec.{eqb}
 use Rattle.encoding.specs.Set.{Mem, count, rowsOf, lay}
 use Rattle.encoding.specs.Refusals.{setTests, tooLarge, doneOr, leftOr}
 use Rattle.encoding.specs.declared.Answer.{Answer}
-use Rattle.terms.specs.Ranks.{TableLine, line, byRank, numbered}
+use Rattle.encoding.specs.Ranks.{TableLine, line, byRank, numbered}
 use Rattle.gates.specs.Gates.{conjRows}
 use Rattle.gates.specs.declared.Gate.{Gate}
 use Rattle.gates.specs.declared.Gate.the-variants as gate

@@ -1,15 +1,16 @@
 // Clifford gates above the row set: one call, which conjugates every row of a set in place. The set is reached through its tests and its leaves alone.
 ghost use mathlib.Core.Path.{_≡_};
 ghost use mathlib.Core.Bool.{cond, true, not, _&&_};
-ghost use lib.ListN.{length};
 ghost use Rattle.pauli.specs.Pauli.{ofBits, hasX, hasZ};
-ghost use Rattle.encoding.specs.Set.{mem, rowsOf, lay};
+ghost use Rattle.encoding.specs.Set.{rowsOf, lay};
+ghost use Rattle.encoding.specs.Lent.{before, after, lentOf, beforeOf, afterOf};
 ghost use Rattle.gates.specs.Gates.{differ, conjRow, conjRows};
 ghost use Rattle.gates.specs.declared.Gate.the-variants as gate;
 ghost use Rattle.clifford.specs.Calls.{largeQubit, oneQubit, gateFault, Conjugates};
 ghost use Rattle.clifford.specs.Workers.{Ready, RowReady, QubitReady, Changed, turnedWith, controlImage, targetImage, cxTurns, withBoth};
 use encoding::Answer;
 use gates::Gate;
+use pauli::ComplexSign;
 use pauli::PauliMatrix;
 use pauli::QubitNumber;
 use pauli::RowNumber;
@@ -38,8 +39,8 @@ fn one_qubit_twice(g: Gate) -> bool
 
 // The first line of the table, by rank, that fits a set and a gate, or 0.
 fn gate_fault(n: usize, x: &[u64], z: &[u64], phases: &[u8], g: Gate) -> u8
-    ensures { λ r. ⌜ r ≡ gateFault n (mem (now (x .entry)) (now (z .entry)) (now (phases .entry))) g ⌝ }
-    ensures none { λ r. ⌜ (r ≡ 0 → Ready n g (mem (now (x .entry)) (now (z .entry)) (now (phases .entry)))) ⌝ }
+    ensures { λ r. ⌜ r ≡ gateFault n (before x z phases) g ⌝ }
+    ensures none { λ r. ⌜ (r ≡ 0 → Ready n g (before x z phases)) ⌝ }
 {
     let f = encoding::set_fault(n, x, z, phases);
     if f != 0 {
@@ -157,15 +158,19 @@ fn cx_turns(p: PauliMatrix, q: PauliMatrix) -> bool
 }
 
 // The exponent of a turned sign.
-fn sign(turns: bool) -> u8
-    ensures { λ e. ⌜ e ≡ cond turns 2 0 ⌝ }
+fn sign(turns: bool) -> ComplexSign
+    ensures { λ e. ⌜ e .0 ≡ cond turns 2 0 ⌝ }
 {
-    if turns { 2 } else { 0 }
+    if turns {
+        return ComplexSign(2);
+    }
+    ComplexSign(0)
 }
 
 // Qubit q of row r becomes a Pauli, and the row's sign turns or not.
 fn set_turned(
     n: usize,
+    m: usize,
     x: &mut [u64],
     z: &mut [u64],
     phases: &mut [u8],
@@ -174,38 +179,59 @@ fn set_turned(
     p: PauliMatrix,
     turns: bool,
 )
-    requires { ⌜ QubitReady n (r .0) (q .0) (mem (now x) (now z) (now phases)) ⌝ }
-    ensures { λ _. ⌜ Changed n (r .0) (turnedWith (q .0) p turns) (mem (now (x .entry)) (now (z .entry)) (now (phases .entry)))
-        (mem (now (x .exit)) (now (z .exit)) (now (phases .exit))) ⌝ }
+    requires { ⌜ QubitReady n (r .0) (q .0) (lentOf m x z phases) ⌝ }
+    ensures { λ _. ⌜ Changed n (r .0) (turnedWith (q .0) p turns) (beforeOf m x z phases)
+        (afterOf m x z phases) ⌝ }
 {
     one_qubit::set_pauli_unchecked(n, x, z, r, q, p);
-    let k = r.0;
-    phases[k] = products::add_signs(phases[k], sign(turns), 0);
+    let e = encoding::get_exponent(phases, r);
+    encoding::set_exponent(
+        phases,
+        r,
+        products::add_signs(e, sign(turns), ComplexSign(0)),
+    );
 }
 
 // H on row r.
-fn h_row(n: usize, x: &mut [u64], z: &mut [u64], phases: &mut [u8], r: RowNumber, q: QubitNumber)
-    requires { ⌜ RowReady n (r .0) (gate.H q) (mem (now x) (now z) (now phases)) ⌝ }
-    ensures { λ _. ⌜ Changed n (r .0) (conjRow n (gate.H q)) (mem (now (x .entry)) (now (z .entry)) (now (phases .entry)))
-        (mem (now (x .exit)) (now (z .exit)) (now (phases .exit))) ⌝ }
+fn h_row(
+    n: usize,
+    m: usize,
+    x: &mut [u64],
+    z: &mut [u64],
+    phases: &mut [u8],
+    r: RowNumber,
+    q: QubitNumber,
+)
+    requires { ⌜ RowReady n (r .0) (gate.H q) (lentOf m x z phases) ⌝ }
+    ensures { λ _. ⌜ Changed n (r .0) (conjRow n (gate.H q)) (beforeOf m x z phases)
+        (afterOf m x z phases) ⌝ }
 {
     let p = one_qubit::get_pauli_unchecked(n, x, z, r, q);
-    set_turned(n, x, z, phases, r, q, h_image(p), is_y(p));
+    set_turned(n, m, x, z, phases, r, q, h_image(p), is_y(p));
 }
 
 // S on row r.
-fn s_row(n: usize, x: &mut [u64], z: &mut [u64], phases: &mut [u8], r: RowNumber, q: QubitNumber)
-    requires { ⌜ RowReady n (r .0) (gate.S q) (mem (now x) (now z) (now phases)) ⌝ }
-    ensures { λ _. ⌜ Changed n (r .0) (conjRow n (gate.S q)) (mem (now (x .entry)) (now (z .entry)) (now (phases .entry)))
-        (mem (now (x .exit)) (now (z .exit)) (now (phases .exit))) ⌝ }
+fn s_row(
+    n: usize,
+    m: usize,
+    x: &mut [u64],
+    z: &mut [u64],
+    phases: &mut [u8],
+    r: RowNumber,
+    q: QubitNumber,
+)
+    requires { ⌜ RowReady n (r .0) (gate.S q) (lentOf m x z phases) ⌝ }
+    ensures { λ _. ⌜ Changed n (r .0) (conjRow n (gate.S q)) (beforeOf m x z phases)
+        (afterOf m x z phases) ⌝ }
 {
     let p = one_qubit::get_pauli_unchecked(n, x, z, r, q);
-    set_turned(n, x, z, phases, r, q, s_image(p), is_y(p));
+    set_turned(n, m, x, z, phases, r, q, s_image(p), is_y(p));
 }
 
 // Both qubits of row r become what controlled-X makes of p at the control and q at the target.
 fn set_both(
     n: usize,
+    m: usize,
     x: &mut [u64],
     z: &mut [u64],
     phases: &mut [u8],
@@ -215,13 +241,14 @@ fn set_both(
     p: PauliMatrix,
     q: PauliMatrix,
 )
-    requires { ⌜ RowReady n (r .0) (gate.CX control target) (mem (now x) (now z) (now phases)) ⌝ }
-    ensures { λ _. ⌜ Changed n (r .0) (withBoth (control .0) (target .0) p q) (mem (now (x .entry)) (now (z .entry)) (now (phases .entry)))
-        (mem (now (x .exit)) (now (z .exit)) (now (phases .exit))) ⌝ }
+    requires { ⌜ RowReady n (r .0) (gate.CX control target) (lentOf m x z phases) ⌝ }
+    ensures { λ _. ⌜ Changed n (r .0) (withBoth (control .0) (target .0) p q) (beforeOf m x z phases)
+        (afterOf m x z phases) ⌝ }
 {
     one_qubit::set_pauli_unchecked(n, x, z, r, target, target_image(p, q));
     set_turned(
         n,
+        m,
         x,
         z,
         phases,
@@ -235,6 +262,7 @@ fn set_both(
 // Controlled-X on row r.
 fn cx_row(
     n: usize,
+    m: usize,
     x: &mut [u64],
     z: &mut [u64],
     phases: &mut [u8],
@@ -242,38 +270,45 @@ fn cx_row(
     control: QubitNumber,
     target: QubitNumber,
 )
-    requires { ⌜ RowReady n (r .0) (gate.CX control target) (mem (now x) (now z) (now phases)) ⌝ }
-    ensures { λ _. ⌜ Changed n (r .0) (conjRow n (gate.CX control target)) (mem (now (x .entry)) (now (z .entry)) (now (phases .entry)))
-        (mem (now (x .exit)) (now (z .exit)) (now (phases .exit))) ⌝ }
+    requires { ⌜ RowReady n (r .0) (gate.CX control target) (lentOf m x z phases) ⌝ }
+    ensures { λ _. ⌜ Changed n (r .0) (conjRow n (gate.CX control target)) (beforeOf m x z phases)
+        (afterOf m x z phases) ⌝ }
 {
     let p = one_qubit::get_pauli_unchecked(n, x, z, r, control);
     let q = one_qubit::get_pauli_unchecked(n, x, z, r, target);
-    set_both(n, x, z, phases, r, control, target, p, q);
+    set_both(n, m, x, z, phases, r, control, target, p, q);
 }
 
 // The gate on row r.
-fn gate_row(n: usize, x: &mut [u64], z: &mut [u64], phases: &mut [u8], r: RowNumber, g: Gate)
-    requires { ⌜ RowReady n (r .0) g (mem (now x) (now z) (now phases)) ⌝ }
-    ensures { λ _. ⌜ Changed n (r .0) (conjRow n g) (mem (now (x .entry)) (now (z .entry)) (now (phases .entry)))
-        (mem (now (x .exit)) (now (z .exit)) (now (phases .exit))) ⌝ }
+fn gate_row(
+    n: usize,
+    m: usize,
+    x: &mut [u64],
+    z: &mut [u64],
+    phases: &mut [u8],
+    r: RowNumber,
+    g: Gate,
+)
+    requires { ⌜ RowReady n (r .0) g (lentOf m x z phases) ⌝ }
+    ensures { λ _. ⌜ Changed n (r .0) (conjRow n g) (beforeOf m x z phases)
+        (afterOf m x z phases) ⌝ }
 {
     match g {
-        Gate::H(q) => h_row(n, x, z, phases, r, q),
-        Gate::S(q) => s_row(n, x, z, phases, r, q),
-        Gate::CX { control, target } => cx_row(n, x, z, phases, r, control, target),
+        Gate::H(q) => h_row(n, m, x, z, phases, r, q),
+        Gate::S(q) => s_row(n, m, x, z, phases, r, q),
+        Gate::CX { control, target } => cx_row(n, m, x, z, phases, r, control, target),
     }
 }
 
 // The gate on every row.
-fn all_rows(n: usize, x: &mut [u64], z: &mut [u64], phases: &mut [u8], g: Gate)
-    requires { ⌜ Ready n g (mem (now x) (now z) (now phases)) ⌝ }
-    ensures { λ _. ⌜ mem (now (x .exit)) (now (z .exit)) (now (phases .exit))
-        ≡ lay n (length (now (phases .entry))) (conjRows n g (rowsOf n (mem (now (x .entry)) (now (z .entry)) (now (phases .entry))))) ⌝ }
+fn all_rows(n: usize, m: usize, x: &mut [u64], z: &mut [u64], phases: &mut [u8], g: Gate)
+    requires { ⌜ Ready n g (lentOf m x z phases) ⌝ }
+    ensures { λ _. ⌜ afterOf m x z phases
+        ≡ lay n m (conjRows n g (rowsOf n (beforeOf m x z phases))) ⌝ }
 {
-    let m = phases.len();
     let mut r = 0;
     while r < m {
-        gate_row(n, x, z, phases, RowNumber(r), g);
+        gate_row(n, m, x, z, phases, RowNumber(r), g);
         r += 1;
     }
 }
@@ -286,13 +321,13 @@ pub fn conj_clifford(
     phases: &mut [u8],
     gate: Gate,
 ) -> Answer
-    ensures { λ a. ⌜ Conjugates n gate (mem (now (x .entry)) (now (z .entry)) (now (phases .entry)))
-        (mem (now (x .exit)) (now (z .exit)) (now (phases .exit))) a ⌝ }
+    ensures { λ a. ⌜ Conjugates n gate (before x z phases)
+        (after x z phases) a ⌝ }
 {
     let f = gate_fault(n, x, z, phases, gate);
     if f != 0 {
         return Answer::Refused(f);
     }
-    all_rows(n, x, z, phases, gate);
+    all_rows(n, phases.len(), x, z, phases, gate);
     Answer::Done
 }

@@ -9,7 +9,7 @@ use native.Mathlib.Omega.{arith}
 use lib.Dec.{T, eqb, eqb→eq}
 use lib.ListN.{length, getD, set}
 use Rattle.pauli.specs.Matrix.{onQubits}
-use Rattle.pauli.specs.Pauli.{Pauli, ofBits, hasX, hasZ, each, total, _·_, mul, phase, phases, clash, clashes}
+use Rattle.pauli.specs.Pauli.{Pauli, ofBits, hasX, hasZ, total, _·_, mul, phase, phases, clash, clashes}
 use Rattle.pauli.specs.declared.PauliMatrix.the-variants.{I, X, Y, Z}
 use Rattle.pauli.specs.Row.{Row, padMul, mulRow, eqP}
 use Rattle.pauli.specs.Rows.{clashesOf, commute}

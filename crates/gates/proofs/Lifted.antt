@@ -8,7 +8,7 @@ use native.Mathlib.Omega.{arith}
 use lib.ListN.{length, getD, set, length-set}
 use lib.IntN.{+ℤ-idl, +ℤ-idr}
 use Rattle.pauli.specs.Gauss.{Gauss, _⊕_, _⊗_, g0}
-use Rattle.pauli.specs.Matrix.{Matrix, entry, matrix, sum, times, sameState}
+use Rattle.pauli.specs.Matrix.{Matrix, pauliEntry, matrix, sum, times, sameState}
 use Rattle.pauli.specs.Pauli.{Pauli}
 use Rattle.pauli.specs.declared.PauliMatrix.the-variants.{I}
 use Rattle.pauli.proofs.GaussRing.{by-parts, ⊗-comm, ⊗-assoc, g1-⊗, g0-⊗}
@@ -146,14 +146,14 @@ three : (a b c : Gauss) → a ⊗ (b ⊗ c) ≡ b ⊗ (a ⊗ c)
 three a b c = sym (⊗-assoc a b c) ∙ ap (λ (x : Gauss). x ⊗ c) (⊗-comm a b) ∙ ⊗-assoc b a c
 
 apart : (ps : List Pauli) (r s : List Bool) (q : ℕ) → length r ≡ length ps → length s ≡ length ps → q < length ps
-    → matrix ps r s ≡ entry (getD ps q I) (getD r q false) (getD s q false) ⊗ matrix (set ps q I) (set r q false) (set s q false)
+    → matrix ps r s ≡ pauliEntry (getD ps q I) (getD r q false) (getD s q false) ⊗ matrix (set ps q I) (set r q false) (set s q false)
 apart [] r s q e k h = absurd (not-suc-le-zero h)
 apart (p ∷ ps) [] s q e k h = absurd (omega arith)
 apart (p ∷ ps) (a ∷ r) [] q e k h = absurd (omega arith)
-apart (p ∷ ps) (a ∷ r) (b ∷ s) zero e k h = ap (λ (x : Gauss). entry p a b ⊗ x) (sym (g1-⊗ (matrix ps r s)))
+apart (p ∷ ps) (a ∷ r) (b ∷ s) zero e k h = ap (λ (x : Gauss). pauliEntry p a b ⊗ x) (sym (g1-⊗ (matrix ps r s)))
 apart (p ∷ ps) (a ∷ r) (b ∷ s) (suc q) e k h =
-    ap (λ (x : Gauss). entry p a b ⊗ x) (apart ps r s q (suc-inj e) (suc-inj k) (le-of-suc-le-suc h))
-    ∙ three (entry p a b) (entry (getD ps q I) (getD r q false) (getD s q false)) (matrix (set ps q I) (set r q false) (set s q false))
+    ap (λ (x : Gauss). pauliEntry p a b ⊗ x) (apart ps r s q (suc-inj e) (suc-inj k) (le-of-suc-le-suc h))
+    ∙ three (pauliEntry p a b) (pauliEntry (getD ps q I) (getD r q false) (getD s q false)) (matrix (set ps q I) (set r q false) (set s q false))
 
 rest : List ℕ → List Pauli → Matrix
 rest qs ps r s = matrix (blank I ps qs) (blank false r qs) (blank false s qs)
@@ -164,7 +164,7 @@ unfolding rest
 split [] ps r s e k h = sym (g1-⊗ (matrix ps r s))
 split (q ∷ qs) ps r s e k h =
     let y = matrix (at I ps qs) (at false r qs) (at false s qs) in
-    let z = entry (getD ps q I) (getD r q false) (getD s q false) in
+    let z = pauliEntry (getD ps q I) (getD r q false) (getD s q false) in
     let w = rest (q ∷ qs) ps r s in
     split qs ps r s e k (h .1 .1)
     ∙ ap (λ (x : Gauss). y ⊗ x)
@@ -172,8 +172,8 @@ split (q ∷ qs) ps r s e k h =
     (length-blank false r qs ∙ e ∙ sym (length-blank I ps qs)) (length-blank false s qs ∙ k ∙ sym (length-blank I ps qs))
     (subst (λ (m : ℕ). q < m) (sym (length-blank I ps qs)) (h .0))
     ∙ ap (λ (x : Gauss). x ⊗ w)
-    (ap (λ (p : Pauli). entry p (getD (blank false r qs) q false) (getD (blank false s qs) q false)) (getD-blank I I ps q qs (h .1 .0))
-    ∙ ap₂ (λ (a b : Bool). entry (getD ps q I) a b) (getD-blank false false r q qs (h .1 .0)) (getD-blank false false s q qs (h .1 .0))))
+    (ap (λ (p : Pauli). pauliEntry p (getD (blank false r qs) q false) (getD (blank false s qs) q false)) (getD-blank I I ps q qs (h .1 .0))
+    ∙ ap₂ (λ (a b : Bool). pauliEntry (getD ps q I) a b) (getD-blank false false r q qs (h .1 .0)) (getD-blank false false s q qs (h .1 .0))))
     ∙ three y z w ∙ sym (⊗-assoc z y w)
 
 -- with other Paulis and other bits at these qubits

@@ -13,7 +13,7 @@ use Rattle.pauli.specs.Pauli.{hasX, hasZ}
 use Rattle.pauli.specs.Row.{Row}
 use Rattle.encoding.specs.Limits.{maxRows, wordsOf}
 use Rattle.encoding.specs.Words.{layRows}
-use Rattle.encoding.specs.Set.{Mem, count, rowsIn, rowsOf, list, layIn, lay, Valid, Sound}
+use Rattle.encoding.specs.Set.{Mem, count, rowsIn, rowsOf, list, layExponents, layIn, lay, Valid, Sound}
 use Rattle.encoding.proofs.Memory.{row-count, read-lay, valid-lay, count-lay}
 use Rattle.one_qubit.specs.Leaves.{atRow}
 
@@ -34,11 +34,11 @@ list-same zero f g h = refl
 list-same {A} (suc m) f g h = ap₂ (λ (a : A) (l : List A). a ∷ l) (h 0 (zero-lt-suc m)) (list-same m (λ k. f (suc k)) (λ k. g (suc k)) (λ k l. h (suc k) (suc-le-suc l)))
 
 pub lay-same : (n m : ℕ) (σ τ : ℕ → Row) → ((k : ℕ) → k < m → σ k ≡ τ k) → lay n m σ ≡ lay n m τ
-unfolding layIn
+unfolding layIn layExponents
 lay-same n m σ τ h =
     let ps : list m (λ k. σ k .ps) ≡ list m (λ k. τ k .ps) = list-same m (λ k. σ k .ps) (λ k. τ k .ps) (λ k l. ap (λ (x : Row). x .ps) (h k l)) in
     let es : list m (λ k. σ k .p) ≡ list m (λ k. τ k .p) = list-same m (λ k. σ k .p) (λ k. τ k .p) (λ k l. ap (λ (x : Row). x .p) (h k l)) in
-    λ i. record { xs = layRows hasX (wordsOf n) (ps i); zs = layRows hasZ (wordsOf n) (ps i); es = es i }
+    λ i. record { m = m; xs = layRows hasX (wordsOf n) (ps i); zs = layRows hasZ (wordsOf n) (ps i); es = es i }
 
 -- ---- rows of n qubits with exponents below 4
 
@@ -58,7 +58,7 @@ module _ (n : ℕ) {M M′ : Mem} (s : Sound n M) (σ : ℕ → Row) (fine : (k 
   count-laid = ap count e ∙ count-lay n (wordsOf n) (count M) σ wide
 
   pub rows-laid : (k : ℕ) → k < count M → rowsOf n M′ k ≡ σ k
-  rows-laid k h = ap (λ (N : Mem). rowsOf n N k) e ∙ read-lay n (wordsOf n) (count M) σ wide k h (fine k h .0)
+  rows-laid k h = ap (λ (N : Mem). rowsOf n N k) e ∙ read-lay n (wordsOf n) (count M) σ wide k h (fine k h .0) (fine k h .1)
 
   pub sound-laid : Sound n M′
   sound-laid =

@@ -15,7 +15,7 @@ use Rattle.pauli.specs.Row.{Row}
 use Rattle.pauli.proofs.RowLaws.{both-of}
 use Rattle.encoding.specs.Limits.{wordsOf}
 use Rattle.encoding.specs.Words.{bitAt, withBit, layRows}
-use Rattle.encoding.specs.Set.{Mem, mem, count, rowsIn, rowsOf, list, layIn, lay, QubitSet, Sound}
+use Rattle.encoding.specs.Set.{Mem, memOf, count, rowsIn, rowsOf, list, layExponents, layIn, lay, QubitSet, Sound}
 use Rattle.encoding.proofs.BitLaws.{lay-of, bit-lay}
 use Rattle.encoding.proofs.Memory.{mem-eq, row-count, lay-back}
 use Rattle.encoding.proofs.Parts.{row-end, length-list, getD-list}
@@ -95,7 +95,8 @@ module _ (w m r q : ℕ) (p : Pauli) (f : Pauli → Bool) (f0 : f I ≡ false) (
       is k j i h hj hi ∙ ap (λ (l : List Pauli). f (getD l (j * 64 + i) I)) (sym (getD-list m (λ k. atRow σ r (withPauli q p) k .ps) k [] h)))
 
 -- no phase changes
-same-phases : (m : ℕ) (σ : ℕ → Row) (r q : ℕ) (p : Pauli) → list m (λ k. σ k .p) ≡ list m (λ k. atRow σ r (withPauli q p) k .p)
+same-phases : (m : ℕ) (σ : ℕ → Row) (r q : ℕ) (p : Pauli) → layExponents m (λ k. σ k .p) ≡ layExponents m (λ k. atRow σ r (withPauli q p) k .p)
+unfolding layExponents
 same-phases m σ r q p = list-same m (λ k. σ k .p) (λ k. atRow σ r (withPauli q p) k .p) (λ k h. at k (ℕ-discrete k r))
   where
     at : (k : ℕ) → Dec (k ≡ r) → σ k .p ≡ atRow σ r (withPauli q p) k .p
@@ -128,7 +129,7 @@ module _ (n : ℕ) {M : Mem} (s : Sound n M) (r q : ℕ) (hr : r < count M) (hq 
   unfolding layIn
   z-old = ap (λ (N : Mem). N .zs) (sym (lay-back n (wordsOf n) (s .valid)))
 
-  e-old : M .es ≡ list (count M) (λ k. rowsOf n M k .p)
+  e-old : M .es ≡ layExponents (count M) (λ k. rowsOf n M k .p)
   unfolding layIn
   e-old = ap (λ (N : Mem). N .es) (sym (lay-back n (wordsOf n) (s .valid)))
 
@@ -157,7 +158,7 @@ module _ (n : ℕ) {M : Mem} (s : Sound n M) (r q : ℕ) (hr : r < count M) (hq 
     set-is : QubitSet (placeOf n r q) p (M .xs) (M .zs) xs′ zs′
     set-is = c .within limits
 
-    pub set-view : mem xs′ zs′ (M .es) ≡ lay n (count M) (atRow (rowsOf n M) r (withPauli q p))
+    pub set-view : memOf (count M) xs′ zs′ (M .es) ≡ lay n (count M) (atRow (rowsOf n M) r (withPauli q p))
     unfolding layIn
     set-view =
         let σ = rowsOf n M in
@@ -171,6 +172,7 @@ module _ (n : ℕ) {M : Mem} (s : Sound n M) (r q : ℕ) (hr : r < count M) (hq 
         set-is .z-words ∙ ap (λ (b : Bool). cond b (set (M .zs) (placeOf n r q / 64) (withBit (getD (M .zs) (placeOf n r q / 64) 0) (placeOf n r q % 64) (hasZ p))) (M .zs)) (inside (placeOf n r q) (M .xs) (M .zs) x-in z-in) ∙ here (M .zs) (hasZ p) in
         let hl : q < length (σ r .ps) = subst (λ (k : ℕ). q < k) (sym row-long) hq in
         mem-eq
+        refl
         (words-laid (wordsOf n) m r q p hasX refl σ hr hw hl (s .valid .x-long) x-old x-new fx)
         (words-laid (wordsOf n) m r q p hasZ refl σ hr hw hl (s .valid .z-long) z-old z-new fz)
         (e-old ∙ same-phases m σ r q p)

@@ -1,11 +1,11 @@
 -- `clifford::conj_clifford` meets its contract: the number is the table's, and 0 says that the set and the gate may be worked on. A refusal leaves what
 -- was there, and `all_rows` the rest. Assumes nothing.
 use borrow.Author.Needs.{needs}
-use mathlib.Core.Path.{refl, _∙_}
+use mathlib.Core.Path.{refl, ap, _∙_}
 use Prim.Native.Nat.{ℕ}
 use Rattle.encoding.specs.declared.Answer.the-variants.{Refused}
 use Rattle.encoding.specs.Refusals.{doneOr, leftOr}
-use Rattle.encoding.specs.Set.{mem, rowsOf, count, lay}
+use Rattle.encoding.specs.Set.{memOf, mem, rowsOf, count, lay}
 use Rattle.encoding.proofs.Faults.{refusing, passing}
 use Rattle.gates.specs.Gates.{conjRows}
 use Rattle.clifford.proofs.conj_clifford.Statement.{statement}
@@ -32,7 +32,8 @@ returns-2 c =
     let M = mem (a .x .now) (a .z .now) (a .phases .now) in
     let new = lay (a .n) (count M) (conjRows (a .n) (a .gate) (rowsOf (a .n) M)) in
     let e = f .gate-fault .ensures .0 in
-    record { answer = passing doneOr e (i .if1 .left); rows = w .all-rows .ensures ∙ passing (λ (k : ℕ). leftOr k M new) e (i .if1 .left) }
+    let l = w .all-rows .last in
+    record { answer = passing doneOr e (i .if1 .left); rows = ap (λ (k : ℕ). memOf k (l .1 .1 .0) (l .1 .1 .1 .0) (l .1 .1 .1 .1 .0)) (w .all-rows .kept .1 .1 .1 .1 .0) ∙ w .all-rows .ensures ∙ passing (λ (k : ℕ). leftOr k M new) e (i .if1 .left) }
 
 pub conj-clifford-spec : {M : Type 1} → statement M
 conj-clifford-spec =
