@@ -1,6 +1,7 @@
 //! What makes a call one to be refused. Each fault is one change to a call that has none, so that refusals can be
 //! asked for alone and in pairs.
 
+use crate::gates::Gate;
 use crate::limits::{QUBITS, ROWS, VECTORS, WORDS_IN_REACH};
 use crate::line::{Case, Field};
 use crate::random::Random;
@@ -88,6 +89,7 @@ fn own(call: &str) -> &'static [(u8, Fault)] {
         }
         "act" => &[(3, state_longer), (3, state_shorter), (4, spare_in_state), (6, row_too_large)],
         "matrix" => &[(3, out_longer), (3, out_shorter)],
+        "gate" => &[(6, qubit_of_n), (6, last_qubit_far_too_large), (21, one_qubit_twice)],
         "pair" => &[
             (2, third_more_rows),
             (3, third_x_longer),
@@ -745,4 +747,41 @@ fn sum_too_large(case: &mut Case, random: &mut Random) -> bool {
     let block = case.words(1)[0];
     set_number(case, 5, case.number(6) ^ block);
     true
+}
+
+// ---- gates
+
+/// Qubit n; of a controlled-X the control.
+fn qubit_of_n(case: &mut Case, _: &mut Random) -> bool {
+    let n = case.number(0);
+    let gate = match case.gate(4) {
+        Gate::H(_) => Gate::H(n),
+        Gate::S(_) => Gate::S(n),
+        Gate::CX(_, t) => Gate::CX(n, t),
+    };
+    set_gate(case, gate)
+}
+
+/// Of a controlled-X the target.
+fn last_qubit_far_too_large(case: &mut Case, random: &mut Random) -> bool {
+    let q = random.pick(&[1 << 16, u64::MAX, 1 << 63]);
+    let gate = match case.gate(4) {
+        Gate::H(_) => Gate::H(q),
+        Gate::S(_) => Gate::S(q),
+        Gate::CX(c, _) => Gate::CX(c, q),
+    };
+    set_gate(case, gate)
+}
+
+/// On top of a qubit that is too large it is the same one twice, and still 6.
+fn one_qubit_twice(case: &mut Case, _: &mut Random) -> bool {
+    match case.gate(4) {
+        Gate::H(q) | Gate::S(q) | Gate::CX(q, _) => set_gate(case, Gate::CX(q, q)),
+    }
+}
+
+fn set_gate(case: &mut Case, gate: Gate) -> bool {
+    let changed = case.gate(4) != gate;
+    case.fields[4] = Field::Gate(gate);
+    changed
 }

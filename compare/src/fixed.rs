@@ -53,6 +53,7 @@ fn list() -> Vec<String> {
     signed_pairs(&mut out);
     engines(&mut out);
     walked_back(&mut out);
+    gates(&mut out);
     many_vectors(&mut out);
     edges_of_the_form(&mut out);
     out
@@ -682,4 +683,56 @@ fn many_vectors(out: &mut Vec<String>) {
         "# states of many basis vectors: what leaves i64 and its neighbours, orders, lists at the limit".to_string(),
     );
     states::at_each_end(&mut |line| out.push(line));
+}
+
+/// The example of docs/GATES.md, both ends, and every rule of each gate in one set.
+fn gates(out: &mut Vec<String>) {
+    group(
+        out,
+        "docs/GATES.md: gates, reduction, check, gates back, and the log from the start",
+        &[
+            "gate 2 0,3,1 1,0,1 0,0,0 h 0",
+            "gate 2 1,2,1 0,1,1 0,0,2 cx 0 1",
+            "gate 2 3,2,3 0,1,1 0,0,2 s 1",
+            "matrix 2 3,2,3 2,3,3 0,0,2 3",
+            "reduceall 2 3,2,3 2,3,3 0,0,2 8",
+            "check 2 3,2,3 2,3,3 0,0,2 0,1,2,3 0,1,2 - 2,0,0,1,0,2,1,2 1,2,0 0,2,1 1,1,1",
+            "gate 2 1,2,0 0,2,1 1,1,1 s 1",
+            "gate 2 1,2,0 0,0,1 1,3,1 s 1",
+            "gate 2 1,2,0 0,2,1 1,3,1 s 1",
+            "gate 2 1,2,0 0,0,1 1,1,1 cx 0 1",
+            "gate 2 3,2,0 0,0,1 1,1,1 h 0",
+            "check 2 0,3,1 1,0,1 0,0,0 0,1,2,3 0,1,2 - 2,0,0,1,0,2,1,2 2,2,1 1,0,0 1,1,1",
+        ],
+    );
+    group(
+        out,
+        "every Pauli, and every two",
+        &[
+            "gate 1 0,1,1,0 0,0,1,1 0,1,2,3 h 0",
+            "gate 1 0,1,1,0 0,0,1,1 0,1,2,3 s 0",
+            "gate 2 0,1,1,0,2,3,3,2,2,3,3,2,0,1,1,0 0,0,1,1,0,0,1,1,2,2,3,3,2,2,3,3 0,1,2,3,0,1,2,3,0,1,2,3,0,1,2,3 cx 0 1",
+            "gate 2 0,1,1,0,2,3,3,2,2,3,3,2,0,1,1,0 0,0,1,1,0,0,1,1,2,2,3,3,2,2,3,3 0,1,2,3,0,1,2,3,0,1,2,3,0,1,2,3 cx 1 0",
+        ],
+    );
+    group(
+        out,
+        "6, 21 and their order; no rows, no qubits",
+        &[
+            "gate 1 1 0 0 cx 0 1",
+            "gate 1 1 0 0 cx 1 0",
+            "gate 1 1 0 0 cx 1 1",
+            "gate 1 1 0 0 cx 0 0",
+            "gate 1 1 0 4 cx 0 0",
+            "gate 1 - - - h 0",
+            "gate 1 - - - h 1",
+            "gate 2 - - - cx 1 1",
+            "gate 0 - - 1 h 0",
+            "gate 65 1,1 0,1 0 cx 64 63",
+            "gate 65 0,1 8000000000000000,1 0 cx 64 63",
+            "gate 1 1 0 0 x 0",
+            "gate 1 1 0 0 cx 0",
+            "gate 1 1 0 0 h 0 0",
+        ],
+    );
 }

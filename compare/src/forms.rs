@@ -1,6 +1,8 @@
 //! Lines at the edges of the form: zeros before a number up to one digit too many, each kind of number at its ends, and
 //! every list and lent length as long as a line may have it, and one longer.
 
+use std::iter::repeat;
+
 use crate::limits::{LINE, LINE_LIST, LINE_LOG, LINE_ROWS, LINE_TERMS, LINE_VECTORS, LINE_WORDS, ROWS, TERMS};
 use crate::line::{joined, kinds_of, Field};
 use crate::random::Random;
@@ -9,7 +11,7 @@ use crate::small::Sink;
 use crate::valid::call_on;
 
 /// A sound line of each call, with something in every list.
-const LINES: [&str; 20] = [
+const LINES: [&str; 22] = [
     "phase1 1 0 1 1",
     "act1 1 1 1",
     "get 1 1,0 0,1 0,3 1 0",
@@ -23,6 +25,8 @@ const LINES: [&str; 20] = [
     "central 1 1,0 0,1 0,3 1",
     "pair 1 1,0 0,1 0,3 1,1 0,1 2,1 2,2,2,2",
     "imul 1 1,0 0,1 0,3 0 1",
+    "gate 1 1,0 0,1 0,3 h 0",
+    "gate 2 1,0 0,1 0,3 cx 0 1",
     "reduce 1 1,1 0,1 0,3 0,1 0 1 8",
     "reduceall 1 1,1 0,1 0,3 8",
     "check 1 1,1 0,1 0,3 0,1 0 1 1,0 1,0 0,1 0,1",
@@ -116,7 +120,8 @@ fn terms_in(bytes: usize) -> String {
 fn each_field(sink: Sink, texts: fn(char, &str) -> Vec<String>) {
     for line in LINES {
         let fields: Vec<&str> = line.split(' ').collect();
-        for (at, kind) in (1..).zip(kinds_of(fields[0])) {
+        // behind the name of a gate stand numbers
+        for (at, kind) in (1..fields.len()).zip(kinds_of(fields[0]).chain(repeat('n'))) {
             for text in texts(kind, fields[at]) {
                 let mut other = fields.clone();
                 other[at] = &text;
@@ -141,7 +146,7 @@ fn digits(kind: char, field: &str) -> Vec<String> {
             out.push(other.join(","));
         }
     }
-    out.retain(|_| kind != 'L');
+    out.retain(|_| !matches!(kind, 'L' | 'C'));
     out
 }
 
@@ -155,6 +160,7 @@ fn ends(kind: char, field: &str) -> Vec<String> {
         'B' => &["3", "4", "255", "256"],
         'S' | 'G' => &["65535", "65536"],
         'I' | 'k' => &["2147483647", "2147483648", "-2147483648", "-2147483649", "-4294967296", "-0", "--1"],
+        'C' => &["h", "s", "cx", "H", "S", "CX", "cz", "hs", "c", "0"],
         _ => &["I", "i", "XY"],
     };
     let rest = field.split_once(',').map_or(String::new(), |(_, rest)| format!(",{rest}"));

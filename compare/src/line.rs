@@ -1,5 +1,6 @@
 //! The lines of docs/CALLS.md, read and written by one table of calls.
 
+use crate::gates::{self, Gate};
 use crate::limits::{LINE, LINE_LIST, LINE_LOG, LINE_ROWS, LINE_TERMS, LINE_VECTORS, LINE_WORDS};
 
 #[derive(Clone, Debug, PartialEq)]
@@ -14,11 +15,13 @@ pub enum Field {
     Ints(Vec<i32>),
     Letter(char),
     Lengths([u64; 4]),
+    Gate(Gate),
 }
 
 /// Each call with the kinds of its fields: n number, w word, W words of rows, B bytes, S list of u16, G log, V words of
-/// terms, I list of i32, K words of a state of many basis vectors, k list of i32 beside them, L letter; lent lengths: o words of a matrix, T four of a set to be written, u units of a log.
-pub const CALLS: [(&str, &str); 20] = [
+/// terms, I list of i32, K words of a state of many basis vectors, k list of i32 beside them, L letter, C a Clifford gate
+/// with its qubits; lent lengths: o words of a matrix, T four of a set to be written, u units of a log.
+pub const CALLS: [(&str, &str); 21] = [
     ("phase1", "wwww"),
     ("act1", "www"),
     ("get", "nWWBnn"),
@@ -32,6 +35,7 @@ pub const CALLS: [(&str, &str); 20] = [
     ("central", "nWWBn"),
     ("pair", "nWWBWWBT"),
     ("imul", "nWWBnn"),
+    ("gate", "nWWBC"),
     ("reduce", "nWWBSSSu"),
     ("reduceall", "nWWBu"),
     ("check", "nWWBSSSGWWB"),
@@ -88,6 +92,13 @@ impl Case {
         }
     }
 
+    pub fn gate(&self, i: usize) -> Gate {
+        match self.fields[i] {
+            Field::Gate(gate) => gate,
+            _ => unreachable!("field {i} of {}", self.call),
+        }
+    }
+
     pub fn line(&self) -> String {
         let mut out = self.call.to_string();
         for field in &self.fields {
@@ -113,7 +124,10 @@ pub fn parsed(line: &str) -> Option<Case> {
     let (call, kinds) = CALLS.iter().find(|c| c.0 == name)?;
     let mut fields = vec![];
     for kind in kinds.chars() {
-        fields.push(field(kind, parts.next()?)?);
+        fields.push(match kind {
+            'C' => Field::Gate(gates::parsed(&mut parts, |text| decimal(text, u64::MAX))?),
+            _ => field(kind, parts.next()?)?,
+        });
     }
     if parts.next().is_some() {
         return None;
@@ -217,6 +231,7 @@ fn written(field: &Field) -> String {
         Field::Ints(v) => joined(v),
         Field::Letter(v) => v.to_string(),
         Field::Lengths(v) => joined(v),
+        Field::Gate(gate) => gate.text(),
     }
 }
 

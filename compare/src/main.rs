@@ -12,6 +12,7 @@ mod engines;
 mod faults;
 mod fixed;
 mod forms;
+mod gates;
 mod limits;
 mod line;
 mod malformed;

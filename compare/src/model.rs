@@ -1,6 +1,7 @@
 //! Document 01 in plain words: every line gets its answer, refusals included. Written from the document and its
 //! readings alone.
 
+use crate::gates::conjugate;
 use crate::limits::{QUBITS, ROWS, TERMS, VECTORS};
 use crate::line::{hexes, joined, parsed, Case, Field};
 use crate::reduction::{first_bad, is_reduced, reduce, replay, walk_back, Lists};
@@ -59,6 +60,7 @@ fn refusal_of_sets(case: &Case) -> Option<u8> {
         (4, Box::new(|| sets.iter().any(|set| spare_bit(size, set)) || spare_bit_in_state(case))),
         (5, Box::new(|| sets.iter().any(|set| set.p.iter().any(|p| *p > 3)))),
         (6, Box::new(|| number_too_large(case, size, sets[0].p.len()))),
+        (21, Box::new(|| case.call == "gate" && case.gate(4).one_qubit_twice())),
         (7, Box::new(|| repeated_in(case, places_of(case).map(|places| places.1)))),
         (15, Box::new(|| repeated_in(case, places_of(case).and_then(|places| places.0)))),
         (9, Box::new(|| log_of(case).is_some_and(|log| log.len() % 2 == 1))),
@@ -109,6 +111,7 @@ fn number_too_large(case: &Case, n: usize, m: usize) -> bool {
         "phase" | "phaset" | "comm" | "imul" => row(4) || row(5),
         "reduce" | "check" => columns(4) || rows(5) || rows(6),
         "undo" => rows(4) || rows(5),
+        "gate" => case.gate(4).qubits().iter().any(|q| *q >= n as u64),
         _ => false,
     }
 }
@@ -242,6 +245,10 @@ fn over_set(case: &Case) -> String {
         }
         "check" => check(case, n, rows),
         "undo" => undo(case, n, rows),
+        "gate" => {
+            rows.iter_mut().for_each(|row| conjugate(row, case.gate(4)));
+            format!("ok {}", rows_text(n, &rows))
+        }
         _ => reduction(case, n, rows),
     }
 }

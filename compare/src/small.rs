@@ -1,12 +1,12 @@
 //! Cases that are not random: all small ones, and every fault of every call alone and with every other.
 
-use crate::faults;
 use crate::limits::QUBITS;
 use crate::line::{Case, Field, CALLS};
 use crate::random::Random;
 use crate::rows::Set;
 use crate::states;
 use crate::valid::{call_on, of_call, of_terms, over_rows, rows};
+use crate::{faults, gates};
 
 pub type Sink<'a> = &'a mut dyn FnMut(String);
 
@@ -20,6 +20,7 @@ pub fn all(sink: Sink) {
     pairs(sink);
     reductions(sink);
     elements(sink);
+    gates_on_rows(sink);
     refusals(sink);
 }
 
@@ -185,6 +186,26 @@ fn elements(sink: Sink) {
             let ints = vec![Field::Ints(re), Field::Ints(im)];
             sink(Case::new("elemf", [head.clone(), floats, tail.clone()].concat()).line());
             sink(Case::new("elemi", [head, ints, tail].concat()).line());
+        }
+    }
+}
+
+/// Every gate on every row of up to three qubits, and on random rows with qubits named at the edges of words.
+fn gates_on_rows(sink: Sink) {
+    for n in 0..=3 {
+        sets(n, 1, &mut |set| {
+            for gate in gates::every(n as u64 + 1) {
+                sink(call_on("gate", n, set, vec![Field::Gate(gate)]).line());
+            }
+        });
+    }
+    let mut random = Random::of(13, 0);
+    for n in [63, 64, 65, 127, 128, 129, QUBITS - 1, QUBITS] {
+        for m in 0..=3 {
+            for _ in 0..12 {
+                let rows = rows(&mut random, n, m);
+                sink(over_rows(&mut random, "gate", n, rows).line());
+            }
         }
     }
 }

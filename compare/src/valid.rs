@@ -1,5 +1,6 @@
 //! Random calls that document 01 does not refuse, or refuses only because a set has no row or no qubit to name.
 
+use crate::gates;
 use crate::limits::{QUBITS, ROWS, UNITS_IN_REACH, WORDS_IN_REACH};
 use crate::line::{Case, Field, CALLS};
 use crate::random::Random;
@@ -128,6 +129,7 @@ pub fn over_rows(random: &mut Random, call: &str, n: usize, rows: Vec<Row>) -> C
             let lists = Lists { order: &order, listed: &listed, extra: &[] };
             vec![Field::Number(units(random, &rows, lists))]
         }
+        "gate" => vec![Field::Gate(gates::random(random, n))],
         "reduce" => reduction(random, n, &rows),
         "undo" => walked(random, n, &rows),
         _ => check(random, n, &rows),

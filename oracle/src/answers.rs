@@ -8,6 +8,7 @@ use oracle::container::coeffs::complex_sign::{ComplexSign, ComplexSignVec};
 use oracle::container::coeffs::traits::{NumRepr, NumReprVec};
 use oracle::container::traits::{Elements, MutRefElements, RefElements};
 use oracle::container::word_iters::WordIters;
+use oracle::qubit::clifford;
 use oracle::qubit::mode::{PauliMatrix, Qubits, SymplecticPart};
 use oracle::qubit::pauli::cmpnt_major::cmpnt_list::CmpntList;
 use oracle::qubit::pauli::cmpnt_major::mat_elem::{mat_elem_cmpnts_from_presorted, mat_elem_from_presorted};
@@ -53,6 +54,7 @@ fn over_set(call: &str, n: usize, set: Set, f: &mut Fields) -> Option<String> {
         "central" => central(rows, f),
         "pair" => pair(n, set, f),
         "imul" => imul(n, set, f),
+        "gate" => gate(set, f),
         "reduce" => reduce(n, set, f),
         "reduceall" => reduce_all(n, set, f),
         "check" => replay(set, f),
@@ -151,6 +153,18 @@ fn imul(n: usize, mut set: Set, f: &mut Fields) -> Option<String> {
     let number = clashes(n, &set.word_iters, a, &set.word_iters, b);
     set.imul(a, b);
     Some(format!("ok {} {number}", set_text(&set)))
+}
+
+/// Each row's word and sign by the Rust's `conj_clifford` of terms, the sign being its coefficient's.
+fn gate(mut set: Set, f: &mut Fields) -> Option<String> {
+    let gate = match f.text()? {
+        "h" => clifford::h(f.number()?),
+        "s" => clifford::s(f.number()?),
+        "cx" => clifford::cx(f.number()?, f.number()?)?,
+        _ => return None,
+    };
+    set.conj_clifford(gate);
+    Some(format!("ok {}", set_text(&set)))
 }
 
 fn reduce(n: usize, set: Set, f: &mut Fields) -> Option<String> {

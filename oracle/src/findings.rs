@@ -29,7 +29,7 @@ type Set = Terms<ComplexSign>;
 /// A finding's number in docs/DIFFERENCES.md, what the Rust is said to give there, and what it gives.
 type Finding = (&'static str, &'static str, fn() -> String);
 
-const FINDINGS: [Finding; 26] = [
+const FINDINGS: [Finding; 27] = [
     ("R1", "1,2", matrix_of_x_and_z),
     ("R2", "error; log lost; 1,0 0,1 0,3", bad_column_after_work),
     ("R2", "error; log lost; 1,0 0,1 0,3", bad_listed_row_after_work),
@@ -52,6 +52,7 @@ const FINDINGS: [Finding; 26] = [
     ("R12", "panic", row_too_large),
     ("R13", "bare: 0; terms: ok - - 1 0", bare_pairs),
     ("R14", "ok 1:0; 1,0 0,1 0,3", column_twice),
+    ("R15", "ok 3 0 0", gate_past_the_last_qubit),
     ("S1", "(+1)^1 = -1, (-1)^2 = -1; i^-1 = +i", powers),
     ("S2", "Y: true, I: false; highest bit of 2: None", redundant_and_highest),
     ("S3", "0 of 2 terms; imaginary part found: false", sorted_copy_and_hermitian),
@@ -111,6 +112,11 @@ fn bad_extra_row_never_reached() -> String {
 /// Rows Y and X, Y listed twice: it is the pivot of both columns, and the second undoes what the first cleared.
 fn listed_row_twice() -> String {
     reduced(set(1, &[1, 1], &[1, 0]), &[(0, X), (0, Z)], &[0, 0, 1], &[])
+}
+
+/// A row of one qubit, a controlled-X onto the next.
+fn gate_past_the_last_qubit() -> String {
+    answer("gate 1 1 0 0 cx 0 1").unwrap_or_else(|| "none".to_string())
 }
 
 /// Rows X and Y, column X twice: the second mention finds no row.
