@@ -104,6 +104,9 @@ fn on_set(
     if is(s, n, b"set") {
         return rows::set(s, n, x, z, p, out, r);
     }
+    if is(s, n, b"gate") {
+        return rows::gate(s, n, x, z, p, out, r);
+    }
     if is(s, n, b"act") {
         return rows::act(s, n, x, z, p, w, out, r);
     }
@@ -235,6 +238,7 @@ fn early(s: &[u8], n: usize) -> bool {
 
 fn late(s: &[u8], n: usize) -> bool {
     is(s, n, b"act")
+        | is(s, n, b"gate")
         | is(s, n, b"matrix")
         | is(s, n, b"pair")
         | is(s, n, b"reduce")

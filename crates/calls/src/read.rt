@@ -9,7 +9,9 @@ ghost use Rattle.text.specs.Lines.{one, words, field};
 ghost use lib.ListN.{length, take};
 ghost use Rattle.calls.specs.Form.{any, letter};
 ghost use Rattle.calls.specs.Workers.{SetRead, RowsRead, ListsRead, LengthsRead, Names};
+use gates::Gate;
 use pauli::PauliMatrix;
+use pauli::QubitNumber;
 use text::number_field;
 
 // X Z P: how many X words, Z words and phase bytes, and the place behind them.
@@ -255,4 +257,70 @@ pub(crate) fn read_letter(s: &[u8], at: usize) -> Letter
         return no_letter();
     }
     named(s[i], i + 1)
+}
+
+// A gate's name behind a space, and its qubits; the place is past them.
+pub(crate) struct Gated {
+    pub ok: bool,
+    pub gate: Gate,
+    pub at: usize,
+}
+
+// s or h, and q
+fn one_qubit(s: &[u8], at: usize, h: bool) -> Gated {
+    let a = number_field(s, at, u64::MAX);
+    let q = QubitNumber(a.value as usize);
+    Gated {
+        ok: a.ok,
+        gate: if h { Gate::H(q) } else { Gate::S(q) },
+        at: a.at,
+    }
+}
+
+// cx control target, behind its first letter
+fn two_qubits(s: &[u8], at: usize) -> Gated {
+    let a = number_field(s, at, u64::MAX);
+    let b = number_field(s, a.at, u64::MAX);
+    Gated {
+        ok: a.ok & b.ok,
+        gate: Gate::CX {
+            control: QubitNumber(a.value as usize),
+            target: QubitNumber(b.value as usize),
+        },
+        at: b.at,
+    }
+}
+
+fn no_gate() -> Gated {
+    Gated {
+        ok: false,
+        gate: Gate::H(QubitNumber(0)),
+        at: 0,
+    }
+}
+
+// h q, s q, or cx control target
+pub(crate) fn read_gate(s: &[u8], at: usize) -> Gated {
+    if s.len() < 2 {
+        return no_gate();
+    }
+    if at >= s.len() - 2 {
+        return no_gate();
+    }
+    if s[at] != b' ' {
+        return no_gate();
+    }
+    let c = s[at + 1];
+    if c == b'h' {
+        return one_qubit(s, at + 2, true);
+    }
+    if c == b's' {
+        return one_qubit(s, at + 2, false);
+    }
+    if c == b'c' {
+        if s[at + 2] == b'x' {
+            return two_qubits(s, at + 3);
+        }
+    }
+    no_gate()
 }

@@ -1,6 +1,7 @@
 // The calls on one set: the line is read, the call is made on the parts that it filled, and its answer written.
 use crate::read;
 use crate::say;
+use gates::Gate;
 use pauli::PauliMatrix;
 use pauli::QubitNumber;
 use pauli::RowNumber;
@@ -252,6 +253,40 @@ pub(crate) fn set(
         out,
         r,
     )
+}
+
+fn conjugated(
+    n: usize,
+    x: &mut [u64],
+    z: &mut [u64],
+    p: &mut [u8],
+    by: Gate,
+    out: &mut [u8],
+    r: Put,
+) -> Put {
+    let a = clifford::conj_clifford(n, x, z, p, by);
+    say::changed(out, r, a, x, z, p)
+}
+
+pub(crate) fn gate(
+    s: &[u8],
+    at: usize,
+    x: &mut [u64],
+    z: &mut [u64],
+    p: &mut [u8],
+    out: &mut [u8],
+    r: Put,
+) -> Put {
+    let q = read::read_rows(s, at, x, z, p);
+    let g = read::read_gate(s, q.at);
+    if !(q.ok & (g.ok & (g.at == s.len()))) {
+        return say::bad(out, r);
+    }
+    let i = q.x;
+    let j = q.z;
+    let k = q.p;
+    let by = g.gate;
+    conjugated(q.n, &mut x[0..i], &mut z[0..j], &mut p[0..k], by, out, r)
 }
 
 fn acted(
