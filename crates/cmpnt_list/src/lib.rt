@@ -48,7 +48,7 @@ pub enum Truth {
 struct Span(usize, usize);
 
 // The first number of the table that fits a set that is read and its call's numbers, or 0; large says that a number is too large.
-fn row_fault(n: usize, x: &[u64], z: &[u64], phases: &[u8], large: bool) -> u8
+pub fn row_fault(n: usize, x: &[u64], z: &[u64], phases: &[u8], large: bool) -> u8
     ensures { λ r. ⌜ r ≡ readFault n (before x z phases) large ⌝ }
     ensures none { λ r. ⌜ (r ≡ 0 → Asked n (before x z phases) large) ⌝ }
 {
