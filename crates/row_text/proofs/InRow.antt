@@ -234,16 +234,16 @@ parse-refused n M new t {f} {g} e ne = subst (λ (k : ℕ). (Refused f ≡ doneO
     go (suc k) h = (refl, refl)
 
 -- no line above fits: taken, or 13
-pub parse-taken : (n : ℕ) (M new : Mem) (t : List ℕ) {M′ : Mem} {g : ℕ} {ok : Bool} → 0 ≡ g → ok ≡ true → (ok ≡ isText n t) × (M′ ≡ cond ok new M)
+pub parse-taken : (n : ℕ) (M new : Mem) (t : List ℕ) {M′ : Mem} {g : ℕ} {ok : Bool} → 0 ≡ g → ok ≡ true → ok ≡ isText n t → M′ ≡ cond ok new M
     → (Done ≡ doneOr (orElse g (noText n t))) × (M′ ≡ leftOr (orElse g (noText n t)) M new)
-parse-taken n M new t {M′} {g} {ok} z e p =
-    let y : noText n t ≡ 0 = ap (λ (b : Bool). cond b 0 13) (sym (p .0) ∙ e) in
+parse-taken n M new t {M′} {g} {ok} z e told rows =
+    let y : noText n t ≡ 0 = ap (λ (b : Bool). cond b 0 13) (sym told ∙ e) in
     let o : orElse g (noText n t) ≡ 0 = ap (λ (k : ℕ). orElse k (noText n t)) (sym z) ∙ y in
-    (ap doneOr (sym o), p .1 ∙ (ap (λ (b : Bool). cond b new M) e ∙ ap (λ (k : ℕ). leftOr k M new) (sym o)))
+    (ap doneOr (sym o), rows ∙ (ap (λ (b : Bool). cond b new M) e ∙ ap (λ (k : ℕ). leftOr k M new) (sym o)))
 
-pub parse-no-text : (n : ℕ) (M new : Mem) (t : List ℕ) {M′ : Mem} {g : ℕ} {ok : Bool} → 0 ≡ g → ok ≡ false → (ok ≡ isText n t) × (M′ ≡ cond ok new M)
+pub parse-no-text : (n : ℕ) (M new : Mem) (t : List ℕ) {M′ : Mem} {g : ℕ} {ok : Bool} → 0 ≡ g → ok ≡ false → ok ≡ isText n t → M′ ≡ cond ok new M
     → (Refused 13 ≡ doneOr (orElse g (noText n t))) × (M′ ≡ leftOr (orElse g (noText n t)) M new)
-parse-no-text n M new t {M′} {g} {ok} z e p =
-    let y : noText n t ≡ 13 = ap (λ (b : Bool). cond b 0 13) (sym (p .0) ∙ e) in
+parse-no-text n M new t {M′} {g} {ok} z e told rows =
+    let y : noText n t ≡ 13 = ap (λ (b : Bool). cond b 0 13) (sym told ∙ e) in
     let o : orElse g (noText n t) ≡ 13 = ap (λ (k : ℕ). orElse k (noText n t)) (sym z) ∙ y in
-    (ap doneOr (sym o), p .1 ∙ (ap (λ (b : Bool). cond b new M) e ∙ ap (λ (k : ℕ). leftOr k M new) (sym o)))
+    (ap doneOr (sym o), rows ∙ (ap (λ (b : Bool). cond b new M) e ∙ ap (λ (k : ℕ). leftOr k M new) (sym o)))

@@ -6,3 +6,4 @@ pub mod Putting
 pub mod Scanning
 pub mod InRow
 pub mod Meaning
+pub mod Ends

@@ -10,12 +10,13 @@ use Rattle.pauli.specs.declared.PauliMatrix.the-variants.{I, X, Y, Z}
 use Rattle.encoding.specs.Limits.{maxWords, wordsOf}
 use Rattle.encoding.specs.Words.{unpack, pack}
 use Rattle.encoding.specs.Refusals.{isOn}
-use Rattle.encoding.specs.Set.{QubitSet}
+use Rattle.encoding.specs.Set.{Mem, count, rowsOf, lay, QubitSet}
 use Rattle.encoding.proofs.WordLaws.{Fit}
 use Rattle.text.specs.Readers.{Got, none, got, answer, starts, over}
 use Rattle.text.specs.Numbers.{numeral, canonical, Stops}
 use Rattle.text.specs.Lines.{marked}
 use Rattle.row_text.specs.Text.{spell, spaced, textOf, isText, rowOf}
+use Rattle.row_text.specs.Calls.{withRow}
 
 -- ---- writing
 
@@ -132,3 +133,8 @@ pub record RowParsed (n : ℕ) (s xs zs xs′ zs′ : List ℕ) (ok : Bool) : Ty
   pub told : ok ≡ isText n s
   pub x-part : xs′ ≡ cond ok (pack hasX (wordsOf n) (rowOf n s)) xs
   pub z-part : zs′ ≡ cond ok (pack hasZ (wordsOf n) (rowOf n s)) zs
+
+-- and into row r of a set in memory
+pub record SetParsed (n : ℕ) (M : Mem) (r : ℕ) (s : List ℕ) (M′ : Mem) (ok : Bool) : Type 0 where
+  pub told : ok ≡ isText n s
+  pub rows : M′ ≡ cond ok (lay n (count M) (withRow (rowsOf n M) r (rowOf n s))) M

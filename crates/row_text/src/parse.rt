@@ -1,15 +1,14 @@
 // A text into a row. It is read into words of its own first, so that a text that is none leaves the row as it was.
 ghost use mathlib.Core.Path.{_≡_};
-ghost use mathlib.Core.Bool.{cond};
 ghost use mathlib.Core.List.{[]};
 ghost use Prim.Native.Nat.{_≤_, _<_};
 ghost use lib.ListN.{length, drop, take};
 ghost use Rattle.encoding.specs.Limits.{maxQubits, maxWords, wordsOf};
-ghost use Rattle.encoding.specs.Set.{mem, rowsOf, lay, Sound, QubitSet};
+ghost use Rattle.encoding.specs.Set.{mem, Sound};
 ghost use Rattle.encoding.specs.Refusals.{isOn};
-ghost use Rattle.row_text.specs.Text.{isText, rowOf};
-ghost use Rattle.row_text.specs.Calls.{withRow, ParseElem};
-ghost use Rattle.row_text.specs.Workers.{letterOf, past, left, lettered as Workers·lettered, named, NamedBy, NextPauli, LetterSet, blank, Holding, Scanned, RowParsed};
+ghost use Rattle.row_text.specs.Calls.{ParseElem};
+ghost use Rattle.row_text.specs.Workers.{letterOf, past, left, lettered as Workers·lettered, NamedBy, NextPauli};
+ghost use Rattle.row_text.specs.Workers.{LetterSet, blank, Holding, Scanned, RowParsed, SetParsed};
 use crate::fmt::row_span;
 use encoding::Answer;
 use pauli::PauliMatrix;
@@ -176,9 +175,8 @@ fn parse_row(n: usize, s: &[u8], x: &mut [u64], z: &mut [u64]) -> bool
 fn parse_at(n: usize, x: &mut [u64], z: &mut [u64], phases: &[u8], r: usize, s: &[u8]) -> bool
     requires { ⌜ Sound n (mem (now x) (now z) (now phases)) ⌝ }
     requires { ⌜ r < length (now phases) ⌝ }
-    ensures { λ ok. ⌜ (ok ≡ isText n (now (s .entry))) × (mem (now (x .exit)) (now (z .exit)) (now (phases .entry)) ≡ cond ok
-        (lay n (length (now (phases .entry))) (withRow (rowsOf n (mem (now (x .entry)) (now (z .entry)) (now (phases .entry)))) r (rowOf n (now (s .entry)))))
-        (mem (now (x .entry)) (now (z .entry)) (now (phases .entry)))) ⌝ }
+    ensures { λ ok. ⌜ SetParsed n (mem (now (x .entry)) (now (z .entry)) (now (phases .entry))) r (now (s .entry))
+        (mem (now (x .exit)) (now (z .exit)) (now (phases .entry))) ok ⌝ }
 {
     let span = row_span(r, n, phases.len());
     let a = span.0;

@@ -1,3 +1,5 @@
+-- Nothing for I; without its space at the start of the output, with it behind something (Putting.first-at, Putting.later-at).
+-- Assumes nothing.
 use Rattle.row_text.proofs.Kit.{sym, ap, subst, List, ℕ, length, arith, needs}
 use Rattle.row_text.specs.Workers.{Puts}
 use Rattle.row_text.proofs.Putting.{puts-none, first-at, later-at}

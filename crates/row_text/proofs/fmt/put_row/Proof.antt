@@ -1,3 +1,5 @@
+-- What is written, with what is still to come behind it, is the text with a space before it (Putting.Putting): each step takes a piece over.
+-- Assumes nothing.
 use Rattle.row_text.proofs.Kit.{_-_, arith, needs}
 use Rattle.encoding.specs.Words.{qubits}
 use Rattle.row_text.proofs.Putting.{Putting, putting, next-fits, put-more, put-all, put-long}

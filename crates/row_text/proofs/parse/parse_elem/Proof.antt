@@ -1,3 +1,5 @@
+-- What the tests find is answered (InRow.parse-refused); where they find nothing, the row is taken, or the text is none's: 13.
+-- Assumes nothing.
 use Rattle.row_text.proofs.Kit.{sym, _∙_, leb-false, length, needs}
 use Rattle.encoding.specs.Set.{mem, count, rowsOf, lay}
 use Rattle.row_text.specs.Text.{rowOf}
@@ -25,7 +27,8 @@ returns-2 c =
     let a = c .before .before .before .before .before .before .before .before .before .before .before .before .before .before .before .before .before .args in
     let M = mem (a .x .now) (a .z .now) (a .phases .now) in
     let new = lay (a .n) (count M) (withRow (rowsOf (a .n) M) (a .row .0) (rowOf (a .n) (a .text .now))) in
-    let r = parse-taken (a .n) M new (a .text .now) (sym (c .before .before .before .before .before .before .before .before .if1 .left) ∙ c .before .before .before .before .before .before .before .before .before .row-fault .ensures .0) (c .if2 .taken) (c .before .before .before .before .before .parse-at .ensures) in
+    let p = c .before .before .before .before .before .parse-at .ensures in
+    let r = parse-taken (a .n) M new (a .text .now) (sym (c .before .before .before .before .before .before .before .before .if1 .left) ∙ c .before .before .before .before .before .before .before .before .before .row-fault .ensures .0) (c .if2 .taken) (p .told) (p .rows) in
     record { answer = r .0; rows = r .1 }
 
 returns-3 : tie.Need-returns-3
@@ -33,7 +36,8 @@ returns-3 c =
     let a = c .before .before .before .before .before .before .before .before .before .before .before .before .before .before .before .before .before .args in
     let M = mem (a .x .now) (a .z .now) (a .phases .now) in
     let new = lay (a .n) (count M) (withRow (rowsOf (a .n) M) (a .row .0) (rowOf (a .n) (a .text .now))) in
-    let r = parse-no-text (a .n) M new (a .text .now) (sym (c .before .before .before .before .before .before .before .before .if1 .left) ∙ c .before .before .before .before .before .before .before .before .before .row-fault .ensures .0) (c .if2 .left) (c .before .before .before .before .before .parse-at .ensures) in
+    let p = c .before .before .before .before .before .parse-at .ensures in
+    let r = parse-no-text (a .n) M new (a .text .now) (sym (c .before .before .before .before .before .before .before .before .if1 .left) ∙ c .before .before .before .before .before .before .before .before .before .row-fault .ensures .0) (c .if2 .left) (p .told) (p .rows) in
     record { answer = r .0; rows = r .1 }
 
 pub parse-elem-spec : {M : Type 1} → statement M

@@ -21,17 +21,17 @@ same-length-2 : tie.Need-same-length-2 Inv-loop μ-loop
 same-length-2 c = holding-long (c .before .before .before .before .loop .inv .holds) .1 ∙ sym (holding-long (c .before .before .before .before .before .before .before .before .pre .1) .1)
 
 returns : tie.Need-returns Inv-loop μ-loop
-returns c = scan-no (c .before .before .before .before .loop .inv) (c .before .before .before .loop-test .taken) (c .before .before .next .ensures) (not-true _ (c .if1 .taken))
+returns c = scan-no (c .before .before .before .before .loop .inv) (omega (arith, c .before .before .before .loop-test .taken)) (c .before .before .next .ensures) (not-true _ (c .if1 .taken))
 
 add-q : tie.Need-add-q Inv-loop μ-loop
 add-q c = omega (arith, c .before .before .before .before .before .before .before .before .before .before .next .ensures .low, c .before .before .before .before .before .before .before .before .before .before .before .before .before .before .before .before .pre .0)
 
 loop-less : tie.Need-loop-less Inv-loop μ-loop
-loop-less c = omega (arith, scan-place (c .before .before .before .before .before .before .before .before .before .before .before .before .loop .inv) (c .before .before .before .before .before .before .before .before .before .before .before .loop-test .taken) (c .before .before .before .before .before .before .before .before .before .before .next .ensures) (not-false _ (c .before .before .before .before .before .before .before .before .if1 .left)))
+loop-less c = omega (arith, scan-place (c .before .before .before .before .before .before .before .before .before .before .before .before .loop .inv) (omega (arith, c .before .before .before .before .before .before .before .before .before .before .before .loop-test .taken)) (c .before .before .before .before .before .before .before .before .before .before .next .ensures) (not-false _ (c .before .before .before .before .before .before .before .before .if1 .left)))
 
 loop-again : tie.Need-loop-again Inv-loop μ-loop
 loop-again c =
-    scan-one (c .before .before .before .before .before .before .before .before .before .before .before .before .before .before .before .before .pre .0) (c .before .before .before .before .before .before .before .before .before .before .before .before .loop .inv) (c .before .before .before .before .before .before .before .before .before .before .before .loop-test .taken) (c .before .before .before .before .before .before .before .before .before .before .next .ensures) (not-false _ (c .before .before .before .before .before .before .before .before .if1 .left))
+    scan-one (c .before .before .before .before .before .before .before .before .before .before .before .before .before .before .before .before .pre .0) (c .before .before .before .before .before .before .before .before .before .before .before .before .loop .inv) (omega (arith, c .before .before .before .before .before .before .before .before .before .before .before .loop-test .taken)) (c .before .before .before .before .before .before .before .before .before .before .next .ensures) (not-false _ (c .before .before .before .before .before .before .before .before .if1 .left))
     (c .before .before .before .before .before .set-letter .ensures)
 
 same-length-3 : tie.Need-same-length-3 Inv-loop μ-loop
