@@ -7,13 +7,14 @@ use borrow.Rule.Slice.PartMut.{putMid, put-same}
 use Rattle.pauli.specs.Row.{Row}
 use Rattle.encoding.specs.Limits.{maxQubits, maxWords, wordsOf}
 use Rattle.encoding.specs.Words.{unpack, qubits, withBit, join, pack}
-use Rattle.encoding.specs.Set.{part, row, Mem, mem, count, rowsIn, layIn, within, QubitSet, Packed, Valid}
+use Rattle.encoding.specs.Set.{part, row, Mem, memOf, count, exponentAt, rowsIn, layIn, within, QubitSet, Packed, Valid}
 use Rattle.encoding.specs.Refusals.{doneOr, leftOr}
 use Rattle.encoding.specs.declared.Answer.the-variants.{Done, Refused}
 use Rattle.encoding.proofs.WordLaws.{Fit}
 use Rattle.encoding.proofs.Padding.{pack-cut}
 use Rattle.encoding.proofs.Reading.{length-pack, qubits-pack}
 use Rattle.encoding.proofs.Memory.{clean-of}
+use Rattle.encoding.proofs.Exponents.{laid-long}
 use Rattle.encoding.proofs.Sets.{laid-by}
 use Rattle.products.specs.Leaves.{Outside}
 use Rattle.products.proofs.PartLaws.{row-other}
@@ -184,14 +185,15 @@ ps-here σ r ps = ap (λ (x : Row). x .ps) (with-here σ r ps r refl)
 module _ (n w : ℕ) {M : Mem} (v : Valid n w M) (r : ℕ) (ps : List Pauli) where
   -- row r holds the Paulis ps, and outside of it nothing has changed
   one-new : {xs′ zs′ : List ℕ} → Outside (r * w) (r * w + w) (M .xs) xs′ → Outside (r * w) (r * w + w) (M .zs) zs′
-      → row w r xs′ ≡ pack hasX w ps → row w r zs′ ≡ pack hasZ w ps → mem xs′ zs′ (M .es) ≡ layIn w (count M) (withRow (rowsIn n w M) r ps)
+      → row w r xs′ ≡ pack hasX w ps → row w r zs′ ≡ pack hasZ w ps → memOf (count M) xs′ zs′ (M .es) ≡ layIn w (count M) (withRow (rowsIn n w M) r ps)
   unfolding rowsIn
   one-new {xs′} {zs′} ox oz hx hz =
       laid-by
       (record {
         x-long = ox .long ∙ v .x-long;
         z-long = oz .long ∙ v .z-long;
-        p-long = refl;
+        many = refl;
+        p-long = laid-long (count M) (v .exponents);
         x-row = λ k h. xr k h (ℕ-discrete k r);
         z-row = λ k h. zr k h (ℕ-discrete k r);
         byte = λ k h. br k (ℕ-discrete k r);
@@ -205,23 +207,23 @@ module _ (n w : ℕ) {M : Mem} (v : Valid n w M) (r : ℕ) (ps : List Pauli) whe
       zr k h (yes e) = ap (λ (j : ℕ). row w j zs′) e ∙ (hz ∙ ap (λ (x : Row). pack hasZ w (x .ps)) (sym (with-here (rowsIn n w M) r ps k e)))
       zr k h (no ne) = row-other w k r oz ne ∙ (v .packed k h .z-is ∙ ap (λ (x : Row). pack hasZ w (x .ps)) (sym (with-other (rowsIn n w M) r ps k ne)))
 
-      br : (k : ℕ) → Dec (k ≡ r) → getD (M .es) k 0 ≡ withRow (rowsIn n w M) r ps k .p
-      br k (yes e) = ap (λ (j : ℕ). getD (M .es) j 0) e ∙ ap (λ (x : Row). x .p) (sym (with-here (rowsIn n w M) r ps k e))
+      br : (k : ℕ) → Dec (k ≡ r) → exponentAt (M .es) k ≡ withRow (rowsIn n w M) r ps k .p
+      br k (yes e) = ap (exponentAt (M .es)) e ∙ ap (λ (x : Row). x .p) (sym (with-here (rowsIn n w M) r ps k e))
       br k (no ne) = ap (λ (x : Row). x .p) (sym (with-other (rowsIn n w M) r ps k ne))
 
 -- as the code does it: the two parts of the row are lent, and put back
 pub row-parsed : (n : ℕ) {M : Mem} → Valid n (wordsOf n) M → (r : ℕ) (s : List ℕ) {a e : ℕ} → RowAt r (wordsOf n) (count M) a e → {px pz : List ℕ} {ok : Bool}
     → length px ≡ length (part a e (M .xs)) → length pz ≡ length (part a e (M .zs)) → RowParsed n s (part a e (M .xs)) (part a e (M .zs)) px pz ok
-    → mem (putMid a (e - a) (M .xs) px) (putMid a (e - a) (M .zs) pz) (M .es) ≡ cond ok (layIn (wordsOf n) (count M) (withRow (rowsIn n (wordsOf n) M) r (rowOf n s))) M
+    → memOf (count M) (putMid a (e - a) (M .xs) px) (putMid a (e - a) (M .zs) pz) (M .es) ≡ cond ok (layIn (wordsOf n) (count M) (withRow (rowsIn n (wordsOf n) M) r (rowOf n s))) M
 row-parsed n {M} v r s {a} {e} at {px} {pz} {ok} kx kz p = go ok (p .x-part) (p .z-part)
   where
     go : (b : Bool) → px ≡ cond b (pack hasX (wordsOf n) (rowOf n s)) (part a e (M .xs)) → pz ≡ cond b (pack hasZ (wordsOf n) (rowOf n s)) (part a e (M .zs))
-        → mem (putMid a (e - a) (M .xs) px) (putMid a (e - a) (M .zs) pz) (M .es) ≡ cond b (layIn (wordsOf n) (count M) (withRow (rowsIn n (wordsOf n) M) r (rowOf n s))) M
+        → memOf (count M) (putMid a (e - a) (M .xs) px) (putMid a (e - a) (M .zs) pz) (M .es) ≡ cond b (layIn (wordsOf n) (count M) (withRow (rowsIn n (wordsOf n) M) r (rowOf n s))) M
     go true ex ez =
         one-new n (wordsOf n) v r (rowOf n s) (put-rest at (M .xs) px (v .x-long) kx) (put-rest at (M .zs) pz (v .z-long) kz)
         (put-row at (M .xs) px (v .x-long) kx ∙ ex) (put-row at (M .zs) pz (v .z-long) kz ∙ ez)
     go false ex ez =
-        ap₂ (λ (x z : List ℕ). mem x z (M .es)) (ap (putMid a (e - a) (M .xs)) ex ∙ put-same a (e - a) (M .xs)) (ap (putMid a (e - a) (M .zs)) ez ∙ put-same a (e - a) (M .zs))
+        ap₂ (λ (x z : List ℕ). memOf (count M) x z (M .es)) (ap (putMid a (e - a) (M .xs)) ex ∙ put-same a (e - a) (M .xs)) (ap (putMid a (e - a) (M .zs)) ez ∙ put-same a (e - a) (M .zs))
 
 -- ---- the call
 

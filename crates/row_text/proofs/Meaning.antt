@@ -68,11 +68,12 @@ taken : {n : ℕ} {M M′ : Mem} {r : ℕ} {t : List ℕ} {a : Answer} → Parse
 taken {n} {M} {M′} {r} {t} p e =
     (p .answer ∙ ap doneOr e, p .rows ∙ ap (λ (k : ℕ). leftOr k M (lay n (count M) (withRow (rowsOf n M) r (rowOf n t)))) e)
 
-new-row : (n : ℕ) (M : Mem) (r : ℕ) (t : List ℕ) → r < count M → rowsOf n (lay n (count M) (withRow (rowsOf n M) r (rowOf n t))) r .ps ≡ rowOf n t
-new-row n M r t h =
+new-row : (n : ℕ) (M : Mem) (r : ℕ) (t : List ℕ) → r < count M → rowsOf n M r .p < 4 → rowsOf n (lay n (count M) (withRow (rowsOf n M) r (rowOf n t))) r .ps ≡ rowOf n t
+new-row n M r t h s =
     let σ = withRow (rowsOf n M) r (rowOf n t) in
     let e = ps-here (rowsOf n M) r (rowOf n t) in
-    ap (λ (x : Row). x .ps) (read-lay n (wordsOf n) (count M) σ (omega arith) r h (ap length e ∙ row-long n t)) ∙ e
+    let small : σ r .p < 4 = subst (λ (x : Row). x .p < 4) (sym (with-here (rowsOf n M) r (rowOf n t) r refl)) s in
+    ap (λ (x : Row). x .ps) (read-lay n (wordsOf n) (count M) σ (omega arith) r h (ap length e ∙ row-long n t) small) ∙ e
 
 -- ---- 14.6: reading a written row gives its Paulis back, in any row of any set of n qubits
 
@@ -89,7 +90,7 @@ written-read n M r out {out′} {a} {N} {N′} {q} {b} w e f p =
     let p′ : ParseElem n N q t N′ b = subst (λ (s : List ℕ). ParseElem n N q s N′ b) (the-text n M r out w e .1) p in
     let z : parseFault n N q t ≡ 0 = ap (λ (j : ℕ). orElse j (noText n t)) f ∙ ap (λ (c : Bool). cond c 0 13) (d .0) in
     let s = taken p′ z in
-    (s .0, ap (λ (L : Mem). rowsOf n L q .ps) (s .1) ∙ (new-row n N q t (k .there) ∙ d .1))
+    (s .0, ap (λ (L : Mem). rowsOf n L q .ps) (s .1) ∙ (new-row n N q t (k .there) (k .proper .small q (k .there)) ∙ d .1))
 
 -- and a text that was read is what is written then
 pub read-written : {n : ℕ} {M M′ : Mem} {r : ℕ} {t : List ℕ} {b : Answer} {out out′ : List ℕ} {a : Written}
@@ -99,7 +100,7 @@ read-written {n} {M} {M′} {r} {t} {b} {out} {out′} {a} p e w f =
     let o = or-none (rowFault n M r) (noText n t) e in
     let m = row-of n M r (o .0) in
     let s = taken p e in
-    let x : rowsOf n M′ r .ps ≡ rowOf n t = ap (λ (L : Mem). rowsOf n L r .ps) (s .1) ∙ new-row n M r t (m .there) in
+    let x : rowsOf n M′ r .ps ≡ rowOf n t = ap (λ (L : Mem). rowsOf n L r .ps) (s .1) ∙ new-row n M r t (m .there) (m .proper .small r (m .there)) in
     let y : textOf (rowsOf n M′ r .ps) ≡ t = ap textOf x ∙ read-text n t (text-taken n t (o .1)) in
     let v = the-text n M′ r out w f in
     (v .0 ∙ ap (λ (l : List ℕ). written.Length (length l)) y, subst (λ (l : List ℕ). take (length l) out′ ≡ l) y (v .1))
@@ -142,7 +143,7 @@ read-again {n} {M} {M′} {M″} {r} {t} {a} {b} p e q =
     let there : r < count M′ = subst (λ (k : ℕ). r < k) (sym (ap count (s .1) ∙ count-lay n w (count M) σ wide)) (m .there) in
     let f : rowFault n M′ r ≡ 0 = read-passes n M′ sound′ (tooLarge (count M′) r) (lt-leb (count M′) r there) in
     let g : parseFault n M′ r t ≡ 0 = ap₂ orElse f (o .1) in
-    let x : rowsOf n M′ r .ps ≡ rowOf n t = ap (λ (L : Mem). rowsOf n L r .ps) (s .1) ∙ new-row n M r t (m .there) in
+    let x : rowsOf n M′ r .ps ≡ rowOf n t = ap (λ (L : Mem). rowsOf n L r .ps) (s .1) ∙ new-row n M r t (m .there) (m .proper .small r (m .there)) in
     let k = taken q g in
     (k .0, k .1 ∙ (ap (lay n (count M′)) (with-same (rowsOf n M′) r (rowOf n t) x) ∙ lay-back n w (sound′ .valid)))
 
