@@ -1,4 +1,4 @@
--- RULES 14.6 to 14.8, from the contracts alone: what is written is read back, what was read is written, a text is the text of one row, and an output
+-- RULES 15.6 to 15.8, from the contracts alone: what is written is read back, what was read is written, a text is the text of one row, and an output
 -- of the longest length is enough. A text settles its row since rows with the same text are the same (Spelling.one-row).
 use Rattle.row_text.proofs.Kit.{_≡_, refl, sym, ap, ap₂, _∙_, subst, Bool, true, false, cond, false≢true, List, _++_, ℕ, zero, suc, _+_, _*_, _<_, _≤_, arith, ℕ-discrete, leb-false, lt-leb, le-ltb, length, take, drop, Pauli}
 use lib.Seq.{take-at}
@@ -75,7 +75,7 @@ new-row n M r t h s =
     let small : σ r .p < 4 = subst (λ (x : Row). x .p < 4) (sym (with-here (rowsOf n M) r (rowOf n t) r refl)) s in
     ap (λ (x : Row). x .ps) (read-lay n (wordsOf n) (count M) σ (omega arith) r h (ap length e ∙ row-long n t) small) ∙ e
 
--- ---- 14.6: reading a written row gives its Paulis back, in any row of any set of n qubits
+-- ---- 15.6: reading a written row gives its Paulis back, in any row of any set of n qubits
 
 pub written-read : (n : ℕ) (M : Mem) (r : ℕ) (out : List ℕ) {out′ : List ℕ} {a : Written} {N N′ : Mem} {q : ℕ} {b : Answer}
     → FmtElem n M r out out′ a → fmtFault n M r out ≡ 0 → rowFault n N q ≡ 0
@@ -147,7 +147,7 @@ read-again {n} {M} {M′} {M″} {r} {t} {a} {b} p e q =
     let k = taken q g in
     (k .0, k .1 ∙ (ap (lay n (count M′)) (with-same (rowsOf n M′) r (rowOf n t) x) ∙ lay-back n w (sound′ .valid)))
 
--- ---- 14.7: a text that is read is the text of one row of n qubits, the one that is taken
+-- ---- 15.7: a text that is read is the text of one row of n qubits, the one that is taken
 
 pub only-row : (n : ℕ) → n ≤ maxQubits → (t : List ℕ) → isText n t ≡ true → (textOf (rowOf n t) ≡ t) × ((ps : List Pauli) → length ps ≡ n → textOf ps ≡ t → ps ≡ rowOf n t)
 only-row n few t e =
@@ -157,7 +157,7 @@ only-row n few t e =
 pub read-back : (n : ℕ) → n ≤ maxQubits → (ps : List Pauli) → length ps ≡ n → (isText n (textOf ps) ≡ true) × (rowOf n (textOf ps) ≡ ps)
 read-back n few ps l = the-row n few (textOf ps) ps l refl
 
--- ---- 14.8: an output of the longest length never draws 14
+-- ---- 15.8: an output of the longest length never draws 14
 
 pub never-short : (n : ℕ) (M : Mem) (r : ℕ) (out : List ℕ) → rowFault n M r ≡ 0 → longest n ≤ length out → fmtFault n M r out ≡ 0
 never-short n M r out e h =

@@ -1,4 +1,4 @@
--- RULES 14, "The text of a row", and 9, "Refusals", call by call: the tests that a call makes, what it answers, and what stands in each lent buffer when
+-- RULES 15, "The text of a row", and 9, "Refusals", call by call: the tests that a call makes, what it answers, and what stands in each lent buffer when
 -- it returns. M is a set in memory and n its number of qubits; a refusal leaves every buffer as it was. Assumes nothing.
 use mathlib.Core.Path.{_≡_}
 use mathlib.Core.Bool.{cond}

@@ -1,4 +1,4 @@
--- RULES 14, "The text of a row": its Paulis that are not I by rising qubit, each as its letter and the number of its qubit in decimal, one space
+-- RULES 15, "The text of a row": its Paulis that are not I by rising qubit, each as its letter and the number of its qubit in decimal, one space
 -- between. As bytes: 32 is the space, 88, 89, 90 are X, Y, Z. And which texts are read, and as which row. Assumes nothing.
 use mathlib.Core.Bool.{Bool, true, false, cond, _||_, _&&_}
 use mathlib.Core.List.{List, [], _∷_, _++_}
