@@ -70,7 +70,8 @@ fn first_bad_by(marks: &[u8], log: &[u16]) -> usize
 // The same by the lists.
 pub(crate) fn first_bad(log: &[u16], listed: &[u16], extra: &[u16]) -> usize
     requires { ⌜ (some (tooLarge maxRows) (now listed) ≡ false) × (some (tooLarge maxRows) (now extra) ≡ false) ⌝ }
-    ensures { λ r. ⌜ placeOf (length (now (log .entry)) / 2) r ≡ firstBad (now (listed .entry)) (now (extra .entry)) 0 (pairs (now (log .entry))) ⌝ }
+    ensures { λ r. ⌜ placeOf (length (now (log .entry)) / 2) r
+        ≡ firstBad (now (listed .entry)) (now (extra .entry)) 0 (pairs (now (log .entry))) ⌝ }
 {
     let mut marks = [NONE; MAX_ROWS];
     mark(extra, EXTRA, &mut marks);

@@ -73,7 +73,8 @@ pub(crate) fn is_reduced(
     listed: &[u16],
     extra: &[u16],
 ) -> bool
-    ensures { λ r. ⌜ r ≡ reduced (bitIn n (now (x .entry)) (now (z .entry))) (now (order .entry)) (now (listed .entry)) (now (extra .entry)) self ⌝ }
+    ensures { λ r. ⌜ r ≡ reduced (bitIn n (now (x .entry)) (now (z .entry)))
+        (now (order .entry)) (now (listed .entry)) (now (extra .entry)) self ⌝ }
 {
     let mut t = 0;
     let mut i = 0;

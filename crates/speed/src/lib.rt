@@ -188,7 +188,8 @@ pub extern "C" fn speed_imul(
     b: usize,
     clashes: &mut u16,
 ) -> u8
-    ensures { λ r. ⌜ Told (Multiplies n a b (before x z phases) (after x z phases)) (Multiplied (now (clashes .entry)) (now (clashes .exit)) r) ⌝ }
+    ensures { λ r. ⌜ Told (Multiplies n a b (before x z phases) (after x z phases))
+        (Multiplied (now (clashes .entry)) (now (clashes .exit)) r) ⌝ }
 {
     let d = terms::imul(n, x, z, phases, RowNumber(a), RowNumber(b));
     let s = multiplied(d, *clashes);
@@ -405,7 +406,8 @@ pub extern "C" fn speed_mat_elem_from_presorted(
     real: &mut i64,
     imag: &mut i64,
 ) -> u8
-    ensures { λ r. ⌜ Told (states.MatElem n (termsLent x z re im) (stateLent bras bre bim) (stateLent kets kre kim)) (Totalled (now (real .entry)) (now (imag .entry)) (now (real .exit)) (now (imag .exit)) r) ⌝ }
+    ensures { λ r. ⌜ Told (states.MatElem n (termsLent x z re im) (stateLent bras bre bim) (stateLent kets kre kim))
+        (Totalled (now (real .entry)) (now (imag .entry)) (now (real .exit)) (now (imag .exit)) r) ⌝ }
 {
     let a = mat_elem::states::mat_elem_from_presorted(
         n,

@@ -1,3 +1,5 @@
+-- A byte is I, X, Y, Z or no letter, by four tests in turn: each way out has the test that held and those before it that did not,
+-- and these are what `pauliOf` asks.
 use Rattle.calls.proofs.Kit.{eq-eqb, ne-eqb, needs, refl}
 use Rattle.calls.specs.Form.{pauliOf}
 use Rattle.calls.proofs.read.named.Statement.{statement}

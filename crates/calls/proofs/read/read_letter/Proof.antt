@@ -1,3 +1,5 @@
+-- The letter is read behind a space: where the line ends before it, or no space stands there, there is none; else the byte decides
+-- (`named`), and the place is behind it.
 use Rattle.calls.proofs.Kit.{needs}
 use Rattle.calls.proofs.Reading.{letter-short, letter-no-space, letter-end, letter-read}
 use Rattle.calls.proofs.read.read_letter.Statement.{statement}

@@ -1,3 +1,5 @@
+-- X words, Z words and phase bytes, each read where the one before it ends: the three readers' answers are one answer of the three
+-- kinds in order (`reads-both`), and each list fits what was lent for it.
 use Rattle.calls.proofs.Kit.{[], _∷_, arith, length, needs}
 use Rattle.text.specs.Lines.{words, numbers}
 use Rattle.calls.proofs.Reading.{filled, reads-one, reads-more}

@@ -1,3 +1,5 @@
+-- A set with a number, and behind it the words of a state: the answer of the first and that of the list are one answer of all kinds
+-- in order (`reads-both`).
 use Rattle.calls.proofs.Kit.{[], _++_, _+_, _∷_, arith, length, needs}
 use Rattle.text.specs.Lines.{words}
 use Rattle.calls.specs.Form.{any, rowsKinds}

@@ -1,3 +1,5 @@
+-- One case a verdict: the words of each are added piece by piece, and what the pieces add one after the other is what their texts
+-- add joined, which is `checkLine` of that verdict.
 use Rattle.calls.proofs.Kit.{needs}
 use Rattle.calls.proofs.say.checked.Statement.{statement}
 use Rattle.calls.proofs.say.checked.Tie as tie

@@ -1,3 +1,5 @@
+-- One case an answer: the words of each are added piece by piece, and what the pieces add one after the other is what their texts
+-- add joined, which is `undoLine` of that answer.
 use Rattle.calls.proofs.Kit.{needs}
 use Rattle.calls.proofs.say.undone.Statement.{statement}
 use Rattle.calls.proofs.say.undone.Tie as tie

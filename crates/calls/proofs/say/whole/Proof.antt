@@ -1,3 +1,5 @@
+-- One case an answer: a sum has its two parts written, with their signs as they stand in the words of the machine; none and a refusal
+-- are texts of their own. Each is `wholeLine` of that answer.
 use Rattle.calls.proofs.Kit.{needs}
 use mir.Facts.{toZ-ofZ}
 use borrow.Author.Needs.{sfits-of}
