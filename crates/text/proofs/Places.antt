@@ -1,12 +1,12 @@
 -- The first byte at a place, and what is read there of a field, an integer, a float and a canonical number: each by the number's own reading.
 -- A field's place is behind its space; where there is none, it is the end, and nothing is read there.
-use Rattle.text.proofs.Kit.{_≡_, refl, sym, ap, _∙_, Bool, true, false, cond, not, _&&_, false≢true, List, [], ℕ, _+_, _<_, arith, length, drop, drop-of-length-le, drop-drop}
+use Rattle.text.proofs.Kit.{_≡_, refl, sym, ap, _∙_, Bool, true, false, cond, not, _&&_, false≢true, List, [], _∷_, ℕ, _+_, _*_, _<_, _≤_, arith, add-one, lt-ltb, le-ltb, length, getD, drop, drop-of-length-le, drop-drop, drop-cons}
 use native.Mathlib.Decide.{decLt}
 use lib.IntN.{ℤ, pos}
 use Rattle.text.specs.Readers.{Got, none, answer, starts, mapped, Reads}
-use Rattle.text.specs.Numbers.{further, number, noDigit, canonical, minus, integer, floatOf, float}
+use Rattle.text.specs.Numbers.{digitOf, further, number, noDigit, canonical, octet, minus, integer, floatOf, float}
 use Rattle.text.specs.Lines.{marked}
-use Rattle.text.specs.Workers.{past, Passes}
+use Rattle.text.specs.Workers.{past, Passes, Pairs}
 
 -- a byte that comes first is there
 pub there : (c : ℕ) (s : List ℕ) (at : ℕ) → starts c (drop at s) ≡ true → at < length s
@@ -60,6 +60,45 @@ no-integer top = refl
 pub no-float : float [] ≡ none
 unfolding further float
 no-float = refl
+
+pub no-octet : octet [] ≡ none
+unfolding octet
+no-octet = refl
+
+-- ---- a byte by its two digits
+
+module _ (s : List ℕ) (at : ℕ) where
+  -- the line ends before the second
+  pub octet-short : length s ≤ at → {v : ℕ} → Reads octet s at false v 0
+  unfolding octet
+  octet-short h = record { is = rw (drop-of-length-le s {i = at} h); within = omega arith }
+
+  module _ (h : at < length s) where
+    first-digit : drop at s ≡ getD s at 0 ∷ drop (at + 1) s
+    first-digit = rw (add-one at) (drop-cons s at 0 h)
+
+    pub octet-half : length s ≤ at + 1 → {v : ℕ} → Reads octet s at false v 0
+    unfolding octet
+    octet-half k = record { is = rw (first-digit, drop-of-length-le s {i = at + 1} k); within = omega arith }
+
+    pub octet-there : at + 1 < length s → {ok : Bool} {v next : ℕ} → Pairs (getD s at 0) (getD s (at + 1) 0) ok v → next ≡ at + 1 + 1 → Reads octet s at ok v next
+    octet-there k {next = next} p e =
+        let d : drop (at + 1) s ≡ getD s (at + 1) 0 ∷ drop (at + 1 + 1) s = rw (add-one (at + 1)) (drop-cons s (at + 1) 0 k) in
+        record { is = rw (first-digit, d, e) (p (drop (at + 1 + 1) s)); within = omega arith }
+
+-- by the digits h and l of the two
+module _ (c d h l : ℕ) (e : h ≡ digitOf c) (k : l ≡ digitOf d) where
+  pub no-high : 16 ≤ h → Pairs c d false 0
+  unfolding octet
+  no-high i t = rw (← e, le-ltb h 16 i)
+
+  pub no-low : h < 16 → 16 ≤ l → Pairs c d false 0
+  unfolding octet
+  no-low i j t = rw (← e, lt-ltb h 16 i, ← k, le-ltb l 16 j)
+
+  pub two-digits : h < 16 → l < 16 → Pairs c d true (h * 16 + l)
+  unfolding octet
+  two-digits i j t = rw (← e, lt-ltb h 16 i, ← k, lt-ltb l 16 j)
 
 -- ---- a zero before other digits
 

@@ -96,6 +96,14 @@ noDigit (c ∷ t) = leb 10 (digitOf c)
 unfoldable pub canonical : ℕ → List ℕ → Got ℕ
 canonical top s = cond (starts 48 s && not (noDigit (drop 1 s))) none (number 10 top s)
 
+-- ---- bytes
+
+-- a byte, by two digits in hexadecimal; whatever stands behind them
+unfoldable pub octet : List ℕ → Got ℕ
+octet [] = none
+octet (c ∷ []) = none
+octet (c ∷ d ∷ t) = cond (ltb (digitOf c) 16) (cond (ltb (digitOf d) 16) (got (digitOf c * 16 + digitOf d) t) none) none
+
 -- ---- signed
 
 abbrev pub integral : ℤ → List ℕ

@@ -5,7 +5,8 @@ use mathlib.Core.List.{List, [], _∷_, _++_}
 use Prim.Native.Nat.{ℕ, _+_, _≤_}
 use lib.Dec.{leb}
 use lib.ListN.{length, drop}
-use Rattle.text.specs.Readers.{starts, Added}
+use Rattle.text.specs.Readers.{starts, answer, Added}
+use Rattle.text.specs.Numbers.{octet}
 use Rattle.text.specs.Lists.{dash, mark}
 
 -- what stands behind the byte c; nothing where it does not come first
@@ -33,6 +34,10 @@ pub data Follows (s : List ℕ) (first : Bool) (j room : ℕ) (read : Bool) : �
 pub record Adds (v p : List ℕ) (ok : Bool) (i : ℕ) (q : List ℕ) (good : Bool) (j : ℕ) : Type 0 where
   pub also : {w o : List ℕ} {at : ℕ} → Added w o at p ok i → Added (w ++ v) o at q good j
   pub same : length q ≡ length p
+
+-- two bytes are the digits of a byte or not
+abbrev pub Pairs : ℕ → ℕ → Bool → ℕ → Type 0
+Pairs c d ok v = (t : List ℕ) → octet (c ∷ d ∷ t) ≡ answer ok v t
 
 -- a mark, as that between an item and more
 abbrev pub between : Bool → ℕ → List ℕ

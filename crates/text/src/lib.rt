@@ -15,6 +15,7 @@ pub use list::floats_field;
 pub use list::halves_field;
 pub use list::ints_field;
 pub use list::log_field;
+pub use list::octets_field;
 pub use list::words_field;
 pub use read::Read;
 pub use read::ReadFloat;

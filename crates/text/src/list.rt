@@ -2,7 +2,7 @@
 // what was taken of it by then stands there.
 ghost use mathlib.Core.Path.{_≡_};
 ghost use lib.ListN.{drop};
-ghost use Rattle.text.specs.Numbers.{number, integer as Numbers·integer, float as Numbers·float};
+ghost use Rattle.text.specs.Numbers.{number, octet as Numbers·octet, integer as Numbers·integer, float as Numbers·float};
 ghost use Rattle.text.specs.Lists.{Fills, list, log, colon as Lists·colon, mark as Lists·mark};
 ghost use Rattle.text.specs.Lines.{fieldOf};
 ghost use Rattle.text.specs.Workers.{Opens, Follows};
@@ -11,6 +11,7 @@ use crate::read::float;
 use crate::read::hexadecimal;
 use crate::read::integer;
 use crate::read::no_digit;
+use crate::read::octet;
 use crate::read::past;
 use crate::read::starts;
 
@@ -148,6 +149,21 @@ pub fn bytes_field(s: &[u8], at: usize, out: &mut [u8]) -> Listed
     let mut p = opens(s, at, out.len());
     while p.left > 0 {
         let r = decimal(s, p.at, 255);
+        out[n] = r.value as u8;
+        n += 1;
+        p = follows(s, false, r.ok, r.at, p.left - 1);
+    }
+    taken(p, n)
+}
+
+// Bytes by two digits each in hexadecimal.
+pub fn octets_field(s: &[u8], at: usize, out: &mut [u8]) -> Listed
+    ensures { λ r. ⌜ Fills (fieldOf (list Numbers·octet)) (now (s .entry)) at (now (out .entry)) (now (out .exit)) (r .ok) (r .count) (r .at) ⌝ }
+{
+    let mut n = 0;
+    let mut p = opens(s, at, out.len());
+    while p.left > 0 {
+        let r = octet(s, p.at);
         out[n] = r.value as u8;
         n += 1;
         p = follows(s, false, r.ok, r.at, p.left - 1);

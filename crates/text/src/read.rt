@@ -6,8 +6,8 @@ ghost use lib.Dec.{leb};
 ghost use lib.IntN.{pos};
 ghost use lib.ListN.{drop};
 ghost use Rattle.text.specs.Readers.{Reads, starts as Readers·starts};
-ghost use Rattle.text.specs.Workers.{Passes};
-ghost use Rattle.text.specs.Numbers.{digitOf, noDigit, minus, floatOf, places as Numbers·places, takes as Numbers·takes, number as Numbers·number, canonical as Numbers·canonical, integer as Numbers·integer, float as Numbers·float};
+ghost use Rattle.text.specs.Workers.{Passes, Pairs};
+ghost use Rattle.text.specs.Numbers.{digitOf, noDigit, minus, floatOf, places as Numbers·places, takes as Numbers·takes, number as Numbers·number, canonical as Numbers·canonical, octet as Numbers·octet, integer as Numbers·integer, float as Numbers·float};
 
 // Whether there is a number, the number, and the place behind it; 0 and 0 where there is none.
 pub struct Read {
@@ -170,6 +170,47 @@ pub fn canonical(s: &[u8], at: usize, most: u64) -> Read
         return nothing();
     }
     decimal(s, at, most)
+}
+
+// The byte of two digits, which end at a place.
+fn octet_of(c: u8, d: u8, at: usize) -> Read
+    ensures { λ r. ⌜ (Pairs c d (r .ok) (r .value)) × (r .value ≤ 255) × (r .at ≡ at) ⌝ }
+{
+    let high = wide(digit(c));
+    let low = wide(digit(d));
+    if high >= 16 {
+        return Read {
+            ok: false,
+            value: 0,
+            at,
+        };
+    }
+    if low >= 16 {
+        return Read {
+            ok: false,
+            value: 0,
+            at,
+        };
+    }
+    Read {
+        ok: true,
+        value: high * 16 + low,
+        at,
+    }
+}
+
+// A byte, by two digits in hexadecimal and lower case.
+pub(crate) fn octet(s: &[u8], at: usize) -> Read
+    ensures { λ r. ⌜ (Reads Numbers·octet (now (s .entry)) at (r .ok) (r .value) (r .at)) × (r .value ≤ 255) ⌝ }
+{
+    if at >= s.len() {
+        return nothing();
+    }
+    let i = at + 1;
+    if i >= s.len() {
+        return nothing();
+    }
+    octet_of(s[at], s[i], i + 1)
 }
 
 // An i32, in the same way.
