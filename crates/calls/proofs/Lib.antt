@@ -1,3 +1,1 @@
 pub mod Kit
-pub mod Pairs
-pub mod Reading

@@ -4,7 +4,7 @@ ghost use lib.ListN.{length};
 use crate::ANSWER;
 use crate::STATES;
 use crate::TERMS;
-use crate::say;
+use forms::say;
 use text::Put;
 
 // The place behind the two lists of parts has bra and ket, and the line's end.

@@ -4,11 +4,7 @@ ghost use Prim.Native.Nat.{_≤_, _<_};
 ghost use lib.ListN.{length};
 use crate::ANSWER;
 use crate::LINE;
-use crate::LIST;
-use crate::LOG;
-use crate::ROWS;
 use crate::TERMS;
-use crate::WORDS;
 use crate::line;
 use libc::STDERR_FILENO;
 use libc::STDIN_FILENO;
@@ -271,20 +267,6 @@ fn past(f: Feed, waiting: usize) -> Feed {
 pub(crate) fn run(
     buf: &mut [u8; LINE],
     out: &mut [u8; ANSWER],
-    x: &mut [u64; WORDS],
-    z: &mut [u64; WORDS],
-    p: &mut [u8; ROWS],
-    x2: &mut [u64; WORDS],
-    z2: &mut [u64; WORDS],
-    p2: &mut [u8; ROWS],
-    x3: &mut [u64; WORDS],
-    z3: &mut [u64; WORDS],
-    p3: &mut [u8; ROWS],
-    clashes: &mut [u16; ROWS],
-    order: &mut [u16; LIST],
-    listed: &mut [u16; LIST],
-    extra: &mut [u16; LIST],
-    log: &mut [u16; LOG],
     tx: &mut [u64; TERMS],
     tz: &mut [u64; TERMS],
     re: &mut [i32; TERMS],
@@ -312,20 +294,6 @@ pub(crate) fn run(
             buf,
             f.start,
             f.stop,
-            x,
-            z,
-            p,
-            x2,
-            z2,
-            p2,
-            x3,
-            z3,
-            p3,
-            clashes,
-            order,
-            listed,
-            extra,
-            log,
             tx,
             tz,
             re,

@@ -1,12 +1,14 @@
 // One call a line on standard input, one answer a line on standard output; docs/CALLS.md says how they are written.
+mod conjugate;
 mod elements;
 mod feed;
 mod line;
+mod naming;
 mod pairwise;
-mod read;
 mod reducing;
 mod rows;
-mod say;
+mod sets;
+mod texts;
 mod words;
 
 use encoding::MAX_QUBITS;
@@ -28,30 +30,19 @@ pub(crate) const TERMS: usize = 65600;
 
 pub(crate) const STATES: usize = MAX_VECTORS + 64;
 
+// The bytes of a row's text, lent or in a list: more than the longest has, 23,465 of 4,096 qubits.
+pub(crate) const TEXT: usize = 24000;
+
 // The bytes of the longest line, its end among them.
 pub(crate) const LINE: usize = 3500000;
 
 // The longest answer is that of a reduction: 70,000 entries of at most 10 bytes, 9,216 words of 17, 4,160 bytes of 4.
 pub(crate) const ANSWER: usize = 900000;
 
-// All arrays are made here, once, and lent.
+// The long arrays are made here, once, and lent; those of sets, lists and logs are made for the line that has them.
 fn main() {
     let mut buf = [0u8; LINE];
     let mut out = [0u8; ANSWER];
-    let mut x = [0u64; WORDS];
-    let mut z = [0u64; WORDS];
-    let mut p = [0u8; ROWS];
-    let mut x2 = [0u64; WORDS];
-    let mut z2 = [0u64; WORDS];
-    let mut p2 = [0u8; ROWS];
-    let mut x3 = [0u64; WORDS];
-    let mut z3 = [0u64; WORDS];
-    let mut p3 = [0u8; ROWS];
-    let mut clashes = [0u16; ROWS];
-    let mut order = [0u16; LIST];
-    let mut listed = [0u16; LIST];
-    let mut extra = [0u16; LIST];
-    let mut log = [0u16; LOG];
     let mut tx = [0u64; TERMS];
     let mut tz = [0u64; TERMS];
     let mut re = [0i32; TERMS];
@@ -61,20 +52,6 @@ fn main() {
     feed::run(
         &mut buf,
         &mut out,
-        &mut x,
-        &mut z,
-        &mut p,
-        &mut x2,
-        &mut z2,
-        &mut p2,
-        &mut x3,
-        &mut z3,
-        &mut p3,
-        &mut clashes,
-        &mut order,
-        &mut listed,
-        &mut extra,
-        &mut log,
         &mut tx,
         &mut tz,
         &mut re,

@@ -1,14 +1,12 @@
 // The call on two sets and a third that is lent for their product.
 ghost use Prim.Native.Nat.{_≤_};
 ghost use lib.ListN.{length};
-use crate::ANSWER;
 use crate::ROWS;
 use crate::WORDS;
-use crate::read;
-use crate::read::Lengths;
-use crate::read::Rows;
-use crate::read::Set;
-use crate::say;
+use forms::read;
+use forms::read::Lengths;
+use forms::read::Set;
+use forms::say;
 use text::Put;
 
 fn multiplied(
@@ -30,42 +28,17 @@ fn multiplied(
     say::paired(out, r, a, x3, z3, p3, c)
 }
 
-pub(crate) fn pair(
-    s: &[u8],
-    at: usize,
-    x: &mut [u64; WORDS],
-    z: &mut [u64; WORDS],
-    p: &mut [u8; ROWS],
-    x2: &mut [u64; WORDS],
-    z2: &mut [u64; WORDS],
-    p2: &mut [u8; ROWS],
-    x3: &mut [u64; WORDS],
-    z3: &mut [u64; WORDS],
-    p3: &mut [u8; ROWS],
-    c: &mut [u16; ROWS],
-    out: &mut [u8; ANSWER],
-    r: Put,
-) -> Put {
-    let q = read::read_rows(s, at, x, z, p);
-    let t = read::read_set(s, q.at, x2, z2, p2);
-    let l = read::read_lengths(s, t.at, WORDS, WORDS, ROWS, ROWS);
-    if !(q.ok & (t.ok & (l.ok & (l.at == s.len())))) {
-        return say::bad(out, r);
-    }
-    lent(q, t, l, x, z, p, x2, z2, p2, x3, z3, p3, c, out, r)
-}
-
 // On the parts that the line filled, and those that it asks for.
 fn lent(
-    q: Rows,
-    t: Set,
-    l: Lengths,
+    n: usize,
     x: &[u64],
     z: &[u64],
     p: &[u8],
+    t: Set,
     x2: &[u64],
     z2: &[u64],
     p2: &[u8],
+    l: Lengths,
     x3: &mut [u64],
     z3: &mut [u64],
     p3: &mut [u8],
@@ -73,13 +46,9 @@ fn lent(
     out: &mut [u8],
     r: Put,
 ) -> Put
-    requires { ⌜ (q .x ≤ length (now x)) × (q .z ≤ length (now z)) × (q .p ≤ length (now p)) ⌝ }
     requires { ⌜ (t .x ≤ length (now x2)) × (t .z ≤ length (now z2)) × (t .p ≤ length (now p2)) ⌝ }
     requires { ⌜ (l .x ≤ length (now x3)) × (l .z ≤ length (now z3)) × (l .p ≤ length (now p3)) × (l .c ≤ length (now c)) ⌝ }
 {
-    let i = q.x;
-    let j = q.z;
-    let k = q.p;
     let i2 = t.x;
     let j2 = t.z;
     let k2 = t.p;
@@ -88,10 +57,10 @@ fn lent(
     let k3 = l.p;
     let m = l.c;
     multiplied(
-        q.n,
-        &x[0..i],
-        &z[0..j],
-        &p[0..k],
+        n,
+        x,
+        z,
+        p,
         &x2[0..i2],
         &z2[0..j2],
         &p2[0..k2],
@@ -99,6 +68,67 @@ fn lent(
         &mut z3[0..j3],
         &mut p3[0..k3],
         &mut c[0..m],
+        out,
+        r,
+    )
+}
+
+fn paired(
+    s: &[u8],
+    at: usize,
+    n: usize,
+    x: &[u64],
+    z: &[u64],
+    p: &[u8],
+    x2: &mut [u64; WORDS],
+    z2: &mut [u64; WORDS],
+    p2: &mut [u8; ROWS],
+    x3: &mut [u64; WORDS],
+    z3: &mut [u64; WORDS],
+    p3: &mut [u8; ROWS],
+    c: &mut [u16; ROWS],
+    out: &mut [u8],
+    r: Put,
+) -> Put {
+    let t = read::read_set(s, at, x2, z2, p2);
+    let l = read::read_lengths(s, t.at, WORDS, WORDS, ROWS, ROWS);
+    if !(t.ok & (l.ok & (l.at == s.len()))) {
+        return say::bad(out, r);
+    }
+    lent(n, x, z, p, t, x2, z2, p2, l, x3, z3, p3, c, out, r)
+}
+
+pub(crate) fn pair(
+    s: &[u8],
+    at: usize,
+    n: usize,
+    x: &[u64],
+    z: &[u64],
+    p: &[u8],
+    out: &mut [u8],
+    r: Put,
+) -> Put {
+    let mut x2 = [0u64; WORDS];
+    let mut z2 = [0u64; WORDS];
+    let mut p2 = [0u8; ROWS];
+    let mut x3 = [0u64; WORDS];
+    let mut z3 = [0u64; WORDS];
+    let mut p3 = [0u8; ROWS];
+    let mut c = [0u16; ROWS];
+    paired(
+        s,
+        at,
+        n,
+        x,
+        z,
+        p,
+        &mut x2,
+        &mut z2,
+        &mut p2,
+        &mut x3,
+        &mut z3,
+        &mut p3,
+        &mut c,
         out,
         r,
     )

@@ -1,16 +1,14 @@
-// Reductions, the checker of their logs, and their way back.
+// Reductions, the checker of their logs, and their way back. The lists and the log that a line has are made for it, and lent by their parts.
 ghost use Prim.Native.Nat.{_≤_};
 ghost use lib.ListN.{length};
-use crate::ANSWER;
 use crate::LIST;
 use crate::LOG;
 use crate::ROWS;
 use crate::WORDS;
-use crate::read;
-use crate::read::Lists;
-use crate::read::Rows;
-use crate::read::Set;
-use crate::say;
+use forms::read;
+use forms::read::Lists;
+use forms::read::Set;
+use forms::say;
 use text::Put;
 
 fn reduced(
@@ -29,59 +27,33 @@ fn reduced(
     say::reduced(out, r, a, log, x, z, p)
 }
 
-pub(crate) fn reduce(
-    s: &[u8],
-    at: usize,
-    x: &mut [u64; WORDS],
-    z: &mut [u64; WORDS],
-    p: &mut [u8; ROWS],
-    order: &mut [u16; LIST],
-    listed: &mut [u16; LIST],
-    extra: &mut [u16; LIST],
-    log: &mut [u16; LOG],
-    out: &mut [u8; ANSWER],
-    r: Put,
-) -> Put {
-    let q = read::read_rows(s, at, x, z, p);
-    let l = read::read_lists(s, q.at, order, listed, extra);
-    let u = text::number_field(s, l.at, LOG as u64);
-    if !(q.ok & (l.ok & (u.ok & (u.at == s.len())))) {
-        return say::bad(out, r);
-    }
-    lent(q, l, u.value, x, z, p, order, listed, extra, log, out, r)
-}
-
 // On the parts that the line filled.
 fn lent(
-    q: Rows,
-    l: Lists,
-    u: u64,
+    n: usize,
     x: &mut [u64],
     z: &mut [u64],
     p: &mut [u8],
+    l: Lists,
     order: &[u16],
     listed: &[u16],
     extra: &[u16],
+    u: u64,
     log: &mut [u16],
     out: &mut [u8],
     r: Put,
 ) -> Put
-    requires { ⌜ (q .x ≤ length (now x)) × (q .z ≤ length (now z)) × (q .p ≤ length (now p)) ⌝ }
     requires { ⌜ (l .order ≤ length (now order)) × (l .listed ≤ length (now listed)) × (l .extra ≤ length (now extra)) ⌝ }
     requires { ⌜ u ≤ length (now log) ⌝ }
 {
-    let i = q.x;
-    let j = q.z;
-    let k = q.p;
     let d = l.order;
     let e = l.listed;
     let f = l.extra;
     let g = u as usize;
     reduced(
-        q.n,
-        &mut x[0..i],
-        &mut z[0..j],
-        &mut p[0..k],
+        n,
+        x,
+        z,
+        p,
         &order[0..d],
         &listed[0..e],
         &extra[0..f],
@@ -90,6 +62,60 @@ fn lent(
         r,
     )
 }
+
+fn ordered(
+    s: &[u8],
+    at: usize,
+    n: usize,
+    x: &mut [u64],
+    z: &mut [u64],
+    p: &mut [u8],
+    order: &mut [u16; LIST],
+    listed: &mut [u16; LIST],
+    extra: &mut [u16; LIST],
+    log: &mut [u16; LOG],
+    out: &mut [u8],
+    r: Put,
+) -> Put {
+    let l = read::read_lists(s, at, order, listed, extra);
+    let u = text::number_field(s, l.at, LOG as u64);
+    if !(l.ok & (u.ok & (u.at == s.len()))) {
+        return say::bad(out, r);
+    }
+    lent(n, x, z, p, l, order, listed, extra, u.value, log, out, r)
+}
+
+pub(crate) fn reduce(
+    s: &[u8],
+    at: usize,
+    n: usize,
+    x: &mut [u64],
+    z: &mut [u64],
+    p: &mut [u8],
+    out: &mut [u8],
+    r: Put,
+) -> Put {
+    let mut order = [0u16; LIST];
+    let mut listed = [0u16; LIST];
+    let mut extra = [0u16; LIST];
+    let mut log = [0u16; LOG];
+    ordered(
+        s,
+        at,
+        n,
+        x,
+        z,
+        p,
+        &mut order,
+        &mut listed,
+        &mut extra,
+        &mut log,
+        out,
+        r,
+    )
+}
+
+// ---- over all columns and rows
 
 fn reduced_all(
     n: usize,
@@ -104,50 +130,40 @@ fn reduced_all(
     say::reduced(out, r, a, log, x, z, p)
 }
 
-pub(crate) fn reduce_all(
+fn logged(
     s: &[u8],
     at: usize,
-    x: &mut [u64; WORDS],
-    z: &mut [u64; WORDS],
-    p: &mut [u8; ROWS],
-    log: &mut [u16; LOG],
-    out: &mut [u8; ANSWER],
-    r: Put,
-) -> Put {
-    let q = read::read_one(s, at, x, z, p, LOG as u64);
-    if !(q.ok & (q.at == s.len())) {
-        return say::bad(out, r);
-    }
-    lent_all(q, x, z, p, log, out, r)
-}
-
-// On the parts that the line filled.
-fn lent_all(
-    q: Rows,
+    n: usize,
     x: &mut [u64],
     z: &mut [u64],
     p: &mut [u8],
     log: &mut [u16],
     out: &mut [u8],
     r: Put,
-) -> Put
-    requires { ⌜ (q .x ≤ length (now x)) × (q .z ≤ length (now z)) × (q .p ≤ length (now p)) ⌝ }
-    requires { ⌜ q .a ≤ length (now log) ⌝ }
-{
-    let i = q.x;
-    let j = q.z;
-    let k = q.p;
-    let g = q.a;
-    reduced_all(
-        q.n,
-        &mut x[0..i],
-        &mut z[0..j],
-        &mut p[0..k],
-        &mut log[0..g],
-        out,
-        r,
-    )
+) -> Put {
+    let u = text::number_field(s, at, log.len() as u64);
+    if !(u.ok & (u.at == s.len())) {
+        return say::bad(out, r);
+    }
+    let g = u.value as usize;
+    reduced_all(n, x, z, p, &mut log[0..g], out, r)
 }
+
+pub(crate) fn reduce_all(
+    s: &[u8],
+    at: usize,
+    n: usize,
+    x: &mut [u64],
+    z: &mut [u64],
+    p: &mut [u8],
+    out: &mut [u8],
+    r: Put,
+) -> Put {
+    let mut log = [0u16; LOG];
+    logged(s, at, n, x, z, p, &mut log, out, r)
+}
+
+// ---- the checker
 
 fn checked(
     n: usize,
@@ -168,88 +184,40 @@ fn checked(
     say::checked(out, r, a, x, z, p)
 }
 
-pub(crate) fn check(
-    s: &[u8],
-    at: usize,
-    x: &mut [u64; WORDS],
-    z: &mut [u64; WORDS],
-    p: &mut [u8; ROWS],
-    order: &mut [u16; LIST],
-    listed: &mut [u16; LIST],
-    extra: &mut [u16; LIST],
-    log: &mut [u16; LOG],
-    x2: &mut [u64; WORDS],
-    z2: &mut [u64; WORDS],
-    p2: &mut [u8; ROWS],
-    out: &mut [u8; ANSWER],
-    r: Put,
-) -> Put {
-    let q = read::read_rows(s, at, x, z, p);
-    let l = read::read_lists(s, q.at, order, listed, extra);
-    let u = text::log_field(s, l.at, log);
-    let t = read::read_set(s, u.at, x2, z2, p2);
-    if !(q.ok & (l.ok & (u.ok & (t.ok & (t.at == s.len()))))) {
-        return say::bad(out, r);
-    }
-    claimed(
-        q,
-        l,
-        u.count,
-        t,
-        x,
-        z,
-        p,
-        order,
-        listed,
-        extra,
-        log,
-        x2,
-        z2,
-        p2,
-        out,
-        r,
-    )
-}
-
 // On the parts that the line filled.
 fn claimed(
-    q: Rows,
-    l: Lists,
-    u: usize,
-    t: Set,
+    n: usize,
     x: &mut [u64],
     z: &mut [u64],
     p: &mut [u8],
+    l: Lists,
     order: &[u16],
     listed: &[u16],
     extra: &[u16],
+    g: usize,
     log: &[u16],
+    t: Set,
     x2: &[u64],
     z2: &[u64],
     p2: &[u8],
     out: &mut [u8],
     r: Put,
 ) -> Put
-    requires { ⌜ (q .x ≤ length (now x)) × (q .z ≤ length (now z)) × (q .p ≤ length (now p)) ⌝ }
     requires { ⌜ (l .order ≤ length (now order)) × (l .listed ≤ length (now listed)) × (l .extra ≤ length (now extra)) ⌝ }
-    requires { ⌜ u ≤ length (now log) ⌝ }
+    requires { ⌜ g ≤ length (now log) ⌝ }
     requires { ⌜ (t .x ≤ length (now x2)) × (t .z ≤ length (now z2)) × (t .p ≤ length (now p2)) ⌝ }
 {
-    let i = q.x;
-    let j = q.z;
-    let k = q.p;
     let d = l.order;
     let e = l.listed;
     let f = l.extra;
-    let g = u;
     let i2 = t.x;
     let j2 = t.z;
     let k2 = t.p;
     checked(
-        q.n,
-        &mut x[0..i],
-        &mut z[0..j],
-        &mut p[0..k],
+        n,
+        x,
+        z,
+        p,
         &order[0..d],
         &listed[0..e],
         &extra[0..f],
@@ -261,6 +229,87 @@ fn claimed(
         r,
     )
 }
+
+fn replayed(
+    s: &[u8],
+    at: usize,
+    n: usize,
+    x: &mut [u64],
+    z: &mut [u64],
+    p: &mut [u8],
+    order: &mut [u16; LIST],
+    listed: &mut [u16; LIST],
+    extra: &mut [u16; LIST],
+    log: &mut [u16; LOG],
+    x2: &mut [u64; WORDS],
+    z2: &mut [u64; WORDS],
+    p2: &mut [u8; ROWS],
+    out: &mut [u8],
+    r: Put,
+) -> Put {
+    let l = read::read_lists(s, at, order, listed, extra);
+    let u = text::log_field(s, l.at, log);
+    let t = read::read_set(s, u.at, x2, z2, p2);
+    if !(l.ok & (u.ok & (t.ok & (t.at == s.len())))) {
+        return say::bad(out, r);
+    }
+    claimed(
+        n,
+        x,
+        z,
+        p,
+        l,
+        order,
+        listed,
+        extra,
+        u.count,
+        log,
+        t,
+        x2,
+        z2,
+        p2,
+        out,
+        r,
+    )
+}
+
+pub(crate) fn check(
+    s: &[u8],
+    at: usize,
+    n: usize,
+    x: &mut [u64],
+    z: &mut [u64],
+    p: &mut [u8],
+    out: &mut [u8],
+    r: Put,
+) -> Put {
+    let mut order = [0u16; LIST];
+    let mut listed = [0u16; LIST];
+    let mut extra = [0u16; LIST];
+    let mut log = [0u16; LOG];
+    let mut x2 = [0u64; WORDS];
+    let mut z2 = [0u64; WORDS];
+    let mut p2 = [0u8; ROWS];
+    replayed(
+        s,
+        at,
+        n,
+        x,
+        z,
+        p,
+        &mut order,
+        &mut listed,
+        &mut extra,
+        &mut log,
+        &mut x2,
+        &mut z2,
+        &mut p2,
+        out,
+        r,
+    )
+}
+
+// ---- the way back
 
 fn undone(
     n: usize,
@@ -277,71 +326,73 @@ fn undone(
     say::undone(out, r, a, x, z, p)
 }
 
-pub(crate) fn undo(
+// On the parts that the line filled.
+fn walked(
+    n: usize,
+    x: &mut [u64],
+    z: &mut [u64],
+    p: &mut [u8],
+    e: usize,
+    listed: &[u16],
+    f: usize,
+    extra: &[u16],
+    g: usize,
+    log: &[u16],
+    out: &mut [u8],
+    r: Put,
+) -> Put
+    requires { ⌜ (e ≤ length (now listed)) × (f ≤ length (now extra)) × (g ≤ length (now log)) ⌝ }
+{
+    undone(n, x, z, p, &listed[0..e], &extra[0..f], &log[0..g], out, r)
+}
+
+fn led_back(
     s: &[u8],
     at: usize,
-    x: &mut [u64; WORDS],
-    z: &mut [u64; WORDS],
-    p: &mut [u8; ROWS],
+    n: usize,
+    x: &mut [u64],
+    z: &mut [u64],
+    p: &mut [u8],
     listed: &mut [u16; LIST],
     extra: &mut [u16; LIST],
     log: &mut [u16; LOG],
-    out: &mut [u8; ANSWER],
+    out: &mut [u8],
     r: Put,
 ) -> Put {
-    let q = read::read_rows(s, at, x, z, p);
-    let e = text::halves_field(s, q.at, listed);
-    let f = text::halves_field(s, e.at, extra);
-    let u = text::log_field(s, f.at, log);
-    if !(q.ok & (e.ok & (f.ok & (u.ok & (u.at == s.len()))))) {
+    let a = text::halves_field(s, at, listed);
+    let b = text::halves_field(s, a.at, extra);
+    let u = text::log_field(s, b.at, log);
+    if !(a.ok & (b.ok & (u.ok & (u.at == s.len())))) {
         return say::bad(out, r);
     }
-    led_back(
-        q,
-        e.count,
-        f.count,
-        u.count,
+    walked(
+        n,
         x,
         z,
         p,
+        a.count,
         listed,
+        b.count,
         extra,
+        u.count,
         log,
         out,
         r,
     )
 }
 
-// On the parts that the line filled.
-fn led_back(
-    q: Rows,
-    e: usize,
-    f: usize,
-    g: usize,
+pub(crate) fn undo(
+    s: &[u8],
+    at: usize,
+    n: usize,
     x: &mut [u64],
     z: &mut [u64],
     p: &mut [u8],
-    listed: &[u16],
-    extra: &[u16],
-    log: &[u16],
     out: &mut [u8],
     r: Put,
-) -> Put
-    requires { ⌜ (q .x ≤ length (now x)) × (q .z ≤ length (now z)) × (q .p ≤ length (now p)) ⌝ }
-    requires { ⌜ (e ≤ length (now listed)) × (f ≤ length (now extra)) × (g ≤ length (now log)) ⌝ }
-{
-    let i = q.x;
-    let j = q.z;
-    let k = q.p;
-    undone(
-        q.n,
-        &mut x[0..i],
-        &mut z[0..j],
-        &mut p[0..k],
-        &listed[0..e],
-        &extra[0..f],
-        &log[0..g],
-        out,
-        r,
-    )
+) -> Put {
+    let mut listed = [0u16; LIST];
+    let mut extra = [0u16; LIST];
+    let mut log = [0u16; LOG];
+    led_back(s, at, n, x, z, p, &mut listed, &mut extra, &mut log, out, r)
 }

@@ -1,5 +1,5 @@
 // The two calls on single words that C makes.
-use crate::say;
+use forms::say;
 use text::Put;
 use text::word_field;
 

@@ -3,13 +3,13 @@ use Rattle.calls.proofs.feed.run.Statement.{statement}
 use Rattle.calls.proofs.feed.run.Tie as tie
 
 abbrev Inv-loop : tie.InvT-loop
-Inv-loop buf₀ out₀ x₀ z₀ p₀ x2₀ z2₀ p2₀ x3₀ z3₀ p3₀ clashes₀ order₀ listed₀ extra₀ log₀ tx₀ tz₀ re₀ im₀ fre₀ fim₀ f₀ turns₀ buf out x z p x2 z2 p2 x3 z3 p3 clashes order listed extra log tx tz re im fre fim f turns = Unit {0}
+Inv-loop buf₀ out₀ tx₀ tz₀ re₀ im₀ fre₀ fim₀ f₀ turns₀ buf out tx tz re im fre fim f turns = Unit {0}
 
 abbrev μ-loop : tie.MeasureT-loop
-μ-loop buf₀ out₀ x₀ z₀ p₀ x2₀ z2₀ p2₀ x3₀ z3₀ p3₀ clashes₀ order₀ listed₀ extra₀ log₀ tx₀ tz₀ re₀ im₀ fre₀ fim₀ f₀ turns₀ buf out x z p x2 z2 p2 x3 z3 p3 clashes order listed extra log tx tz re im fre fim f turns = turns
+μ-loop buf₀ out₀ tx₀ tz₀ re₀ im₀ fre₀ fim₀ f₀ turns₀ buf out tx tz re im fre fim f turns = turns
 
 loop-less : tie.Need-loop-less Inv-loop μ-loop
-loop-less c = omega (arith, c .before .before .before .before .before .before .before .before .before .before .before .before .before .before .before .before .before .before .before .before .before .before .before .before .before .before .before .before .before .before .loop-test .taken)
+loop-less c = omega (arith, c .before .before .before .before .before .before .before .before .before .before .before .before .before .before .before .before .loop-test .taken)
 
 pub run-spec : {M : Type 1} → statement M
 run-spec =

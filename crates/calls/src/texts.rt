@@ -1,0 +1,126 @@
+// The calls on the text of a row: written into lent bytes, and read, from the rest of the line or from a list of bytes. These bytes are few,
+// and made for the line that has them.
+use crate::TEXT;
+use forms::read;
+use forms::say;
+use pauli::RowNumber;
+use text::Put;
+use text::number_field;
+
+fn written(
+    s: &[u8],
+    at: usize,
+    n: usize,
+    x: &[u64],
+    z: &[u64],
+    p: &[u8],
+    b: &mut [u8],
+    out: &mut [u8],
+    r: Put,
+) -> Put {
+    let q = read::read_two(s, at);
+    if !(q.ok & (q.at == s.len())) {
+        return say::bad(out, r);
+    }
+    let e = q.b;
+    if e > b.len() {
+        return say::bad(out, r);
+    }
+    into_bytes(n, x, z, p, q.a, &mut b[0..e], out, r)
+}
+
+fn into_bytes(
+    n: usize,
+    x: &[u64],
+    z: &[u64],
+    p: &[u8],
+    row: usize,
+    b: &mut [u8],
+    out: &mut [u8],
+    r: Put,
+) -> Put {
+    let a = row_text::fmt_elem(n, x, z, p, RowNumber(row), b);
+    say::written(out, r, a, b)
+}
+
+pub(crate) fn write(
+    s: &[u8],
+    at: usize,
+    n: usize,
+    x: &[u64],
+    z: &[u64],
+    p: &[u8],
+    out: &mut [u8],
+    r: Put,
+) -> Put {
+    let mut b = [0u8; TEXT];
+    written(s, at, n, x, z, p, &mut b, out, r)
+}
+
+fn parsed(
+    n: usize,
+    x: &mut [u64],
+    z: &mut [u64],
+    p: &[u8],
+    row: usize,
+    t: &[u8],
+    out: &mut [u8],
+    r: Put,
+) -> Put {
+    let a = row_text::parse_elem(n, x, z, p, RowNumber(row), t);
+    say::changed(out, r, a, x, z, p)
+}
+
+pub(crate) fn read_text(
+    s: &[u8],
+    at: usize,
+    n: usize,
+    x: &mut [u64],
+    z: &mut [u64],
+    p: &[u8],
+    out: &mut [u8],
+    r: Put,
+) -> Put {
+    let q = number_field(s, at, u64::MAX);
+    let t = read::read_rest(s, q.at);
+    if !(q.ok & t.ok) {
+        return say::bad(out, r);
+    }
+    let a = t.from;
+    let e = s.len();
+    parsed(n, x, z, p, q.value as usize, &s[a..e], out, r)
+}
+
+fn taken(
+    s: &[u8],
+    at: usize,
+    n: usize,
+    x: &mut [u64],
+    z: &mut [u64],
+    p: &[u8],
+    b: &mut [u8],
+    out: &mut [u8],
+    r: Put,
+) -> Put {
+    let q = number_field(s, at, u64::MAX);
+    let l = text::octets_field(s, q.at, b);
+    if !(q.ok & (l.ok & (l.at == s.len()))) {
+        return say::bad(out, r);
+    }
+    let e = l.count;
+    parsed(n, x, z, p, q.value as usize, &b[0..e], out, r)
+}
+
+pub(crate) fn read_bytes(
+    s: &[u8],
+    at: usize,
+    n: usize,
+    x: &mut [u64],
+    z: &mut [u64],
+    p: &[u8],
+    out: &mut [u8],
+    r: Put,
+) -> Put {
+    let mut b = [0u8; TEXT];
+    taken(s, at, n, x, z, p, &mut b, out, r)
+}

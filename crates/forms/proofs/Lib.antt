@@ -1,0 +1,4 @@
+pub mod Kit
+pub mod Pairs
+pub mod Reading
+pub mod Texts

@@ -1,0 +1,32 @@
+use borrow.Author.Needs.{needs}
+use native.Mathlib.Omega.{arith}
+use Rattle.forms.proofs.Kit.{_-_, _≡_}
+use lib.Seq.{take-all}
+use Rattle.forms.proofs.say.text_part.Statement.{statement}
+use Rattle.forms.proofs.say.text_part.Tie as tie
+use Rattle.forms.proofs.say.text_part.Reads as reads
+use Rattle.forms.proofs.say.text_part.Lts as lts
+use Rattle.forms.proofs.say.text_field.Reads as text-field-reads
+
+returns : tie.Need-returns
+returns c = let a = c .before .before .before .before .before .before .before .before .args in
+    let e : a .n - 0 ≡ a .n = omega arith in
+    rw e at (c .before .before .text-field .ensures)
+
+returns-2 : tie.Need-returns-2
+returns-2 c = let a = c .before .before .before .before .before .before .before .args in
+    rw (take-all (a .n) (a .b .now) (omega (arith, c .before .before .before .before .if1 .left))) (c .before .before .text-field2 .ensures)
+
+pub text-part-spec : {M : Type 1} → statement M
+text-part-spec =
+    tie.close
+    (tie.spec
+    (λ c. search needs)
+    (λ c. search needs)
+    (λ c. search needs)
+    (λ c κs. search needs)
+    (λ c. search needs)
+    returns
+    (λ c κs. search needs)
+    (λ c. search needs)
+    returns-2)

@@ -1,0 +1,4 @@
+pub mod Answers
+pub mod Form
+pub mod Fields
+pub mod Workers

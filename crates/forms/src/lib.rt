@@ -1,0 +1,3 @@
+// Lines of docs/CALLS.md by their parts, whatever call they make: the fields that they share, and the answers.
+pub mod read;
+pub mod say;
