@@ -7,6 +7,7 @@ use crate::line::{Case, Field};
 use crate::random::Random;
 use crate::reduction::{reduce, Lists};
 use crate::rows::{unpacked, words_for, Set};
+use crate::texts;
 
 /// A change, and whether it could be made.
 pub type Fault = fn(&mut Case, &mut Random) -> bool;
@@ -89,6 +90,20 @@ fn own(call: &str) -> &'static [(u8, Fault)] {
         }
         "act" => &[(3, state_longer), (3, state_shorter), (4, spare_in_state), (6, row_too_large)],
         "matrix" => &[(3, out_longer), (3, out_shorter)],
+        "write" => &[(6, row_too_large), (6, row_far_too_large), (14, text_not_lent)],
+        "read" | "readx" => {
+            const TEXTS: &[(u8, Fault)] = &[
+                (6, row_too_large),
+                (6, row_far_too_large),
+                (13, text_with_space_before),
+                (13, text_with_space_behind),
+                (13, text_of_qubit_n),
+                (13, text_with_zero_before),
+                (13, text_repeated),
+                (13, text_of_i),
+            ];
+            TEXTS
+        }
         "gate" => &[(6, qubit_of_n), (6, last_qubit_far_too_large), (21, one_qubit_twice)],
         "pair" => &[
             (2, third_more_rows),
@@ -784,4 +799,68 @@ fn set_gate(case: &mut Case, gate: Gate) -> bool {
     let changed = case.gate(4) != gate;
     case.fields[4] = Field::Gate(gate);
     changed
+}
+
+// ---- texts
+
+/// An output a byte shorter than the text.
+fn text_not_lent(case: &mut Case, _: &mut Random) -> bool {
+    let (n, row) = (n_of(case), case.number(4) as usize);
+    let set = Set { x: case.words(1).to_vec(), z: case.words(2).to_vec(), p: case.bytes(3).to_vec() };
+    let fits = n <= QUBITS && [&set.x, &set.z].iter().all(|part| part.len() == set.p.len() * words_for(n));
+    let length = if fits { unpacked(n, &set).get(row).map_or(0, |row| texts::written(&row.paulis).len()) } else { 0 };
+    length > 0 && set_number(case, 5, length as u64 - 1)
+}
+
+/// The text with something put at its front or at its end.
+fn put_into_text(case: &mut Case, at_front: bool, bytes: &[u8]) -> bool {
+    match &mut case.fields[5] {
+        Field::Text(text) | Field::TextBytes(text) => {
+            *text = if at_front { [bytes, text].concat() } else { [text, bytes].concat() };
+        }
+        _ => unreachable!("the text of {}", case.call),
+    }
+    true
+}
+
+fn text_with_space_before(case: &mut Case, _: &mut Random) -> bool {
+    put_into_text(case, true, b" ")
+}
+
+fn text_with_space_behind(case: &mut Case, _: &mut Random) -> bool {
+    put_into_text(case, false, b" ")
+}
+
+/// One Pauli more, behind the others.
+fn more_text(case: &mut Case, pauli: &str) -> bool {
+    let space = if case.text(5).is_empty() { "" } else { " " };
+    put_into_text(case, false, format!("{space}{pauli}").as_bytes())
+}
+
+fn text_of_qubit_n(case: &mut Case, _: &mut Random) -> bool {
+    let n = case.number(0);
+    more_text(case, &format!("Z{n}"))
+}
+
+/// The last qubit, which is a number of n or above where there is none.
+fn text_with_zero_before(case: &mut Case, _: &mut Random) -> bool {
+    *case.fields.last_mut().expect("the text") = match case.call {
+        "read" => Field::Text(vec![]),
+        _ => Field::TextBytes(vec![]),
+    };
+    let last = case.number(0).saturating_sub(1);
+    more_text(case, &format!("X0{last}"))
+}
+
+/// The last Pauli twice.
+fn text_repeated(case: &mut Case, _: &mut Random) -> bool {
+    let text = String::from_utf8_lossy(case.text(5)).into_owned();
+    match text.rsplit(' ').next() {
+        Some(last) if !last.is_empty() => more_text(case, last),
+        _ => false,
+    }
+}
+
+fn text_of_i(case: &mut Case, _: &mut Random) -> bool {
+    more_text(case, "I0")
 }

@@ -7,7 +7,7 @@ use crate::model;
 use crate::random::Random;
 use crate::rows::{packed, words_for, Pauli, Row, Set};
 use crate::small::{over_sets, plain_terms, singles_and_pairs};
-use crate::{engines, forms, malformed, states, undoing, valid};
+use crate::{engines, forms, malformed, states, texts, undoing, valid};
 
 /// Writes the list and its answers; the number of cases where Rust and model differ, and of the Rust's faults.
 pub fn write(oracle: Option<Vec<String>>, cases: &str, answers: &str) -> usize {
@@ -55,6 +55,7 @@ fn list() -> Vec<String> {
     walked_back(&mut out);
     gates(&mut out);
     many_vectors(&mut out);
+    texts(&mut out);
     edges_of_the_form(&mut out);
     out
 }
@@ -481,8 +482,8 @@ fn not_of_the_form(out: &mut Vec<String>) {
 fn edges_of_the_form(out: &mut Vec<String>) {
     let what = "digits, ends of each kind of number, lists and lengths as long as a line has them";
     out.push(format!("# the edges of the form: {what}"));
-    // a file of text has no carriage returns
-    forms::few(&mut |line| out.extend(Some(line).filter(|line| !line.contains('\r'))));
+    // no carriage returns
+    forms::few(&mut |line| out.extend(Some(line).filter(|line| printable(line))));
 }
 
 fn random(out: &mut Vec<String>) {
@@ -683,6 +684,21 @@ fn many_vectors(out: &mut Vec<String>) {
         "# states of many basis vectors: what leaves i64 and its neighbours, orders, lists at the limit".to_string(),
     );
     states::at_each_end(&mut |line| out.push(line));
+}
+
+/// Hostile texts in both forms, and all of up to two bytes; a file of text has printable bytes.
+fn texts(out: &mut Vec<String>) {
+    out.push(
+        "# texts of rows: all of up to two bytes of an alphabet, hostile ones, the longest, outputs around".to_string(),
+    );
+    for n in [0, 1, 2, 11] {
+        texts::all_short(n, 2, &mut |line| out.push(line));
+    }
+    texts::at_each_end(&mut |line| out.extend(Some(line).filter(|line| printable(line))));
+}
+
+fn printable(line: &str) -> bool {
+    line.bytes().all(|byte| matches!(byte, b' '..=b'~' | b'\t'))
 }
 
 /// The example of docs/GATES.md, both ends, and every rule of each gate in one set.

@@ -3,7 +3,9 @@
 
 use std::iter::repeat;
 
-use crate::limits::{LINE, LINE_LIST, LINE_LOG, LINE_ROWS, LINE_TERMS, LINE_VECTORS, LINE_WORDS, ROWS, TERMS};
+use crate::limits::{
+    LINE, LINE_LIST, LINE_LOG, LINE_ROWS, LINE_TERMS, LINE_TEXT, LINE_VECTORS, LINE_WORDS, ROWS, TERMS,
+};
 use crate::line::{joined, kinds_of, Field};
 use crate::random::Random;
 use crate::rows::Set;
@@ -11,7 +13,7 @@ use crate::small::Sink;
 use crate::valid::call_on;
 
 /// A sound line of each call, with something in every list.
-const LINES: [&str; 22] = [
+const LINES: [&str; 25] = [
     "phase1 1 0 1 1",
     "act1 1 1 1",
     "get 1 1,0 0,1 0,3 1 0",
@@ -27,6 +29,9 @@ const LINES: [&str; 22] = [
     "imul 1 1,0 0,1 0,3 0 1",
     "gate 1 1,0 0,1 0,3 h 0",
     "gate 2 1,0 0,1 0,3 cx 0 1",
+    "write 1 1,0 0,1 0,3 1 2",
+    "read 1 1,0 0,1 0,3 1 Y0",
+    "readx 1 1,0 0,1 0,3 1 59,30",
     "reduce 1 1,1 0,1 0,3 0,1 0 1 8",
     "reduceall 1 1,1 0,1 0,3 8",
     "check 1 1,1 0,1 0,3 0,1 0 1 1,0 1,0 0,1 0,1",
@@ -42,6 +47,7 @@ pub fn all(sink: Sink) {
         sink(zeros(line, most));
         sink(zeros(line, most + 1));
     }
+    texts(sink);
     for entries in [LINE_LOG / 2, LINE_LOG / 2 + 1] {
         with_log(&joined(&vec!["0:0"; entries]), sink);
     }
@@ -153,13 +159,15 @@ fn digits(kind: char, field: &str) -> Vec<String> {
 /// The first item at the ends of its kind, and outside of them; a list that is none.
 fn ends(kind: char, field: &str) -> Vec<String> {
     let items: &[&str] = match kind {
-        'n' | 'o' | 'u' | 'T' => {
+        'n' | 'o' | 'u' | 't' | 'T' => {
             &["65535", "65536", "18446744073709551615", "18446744073709551616", "99999999999999999999"]
         }
         'w' | 'W' | 'V' | 'K' => &["ffffffffffffffff", "10000000000000000", "A", "g", "0x1"],
         'B' => &["3", "4", "255", "256"],
         'S' | 'G' => &["65535", "65536"],
         'I' | 'k' => &["2147483647", "2147483648", "-2147483648", "-2147483649", "-4294967296", "-0", "--1"],
+        'R' => &["X0 ", " X0", "\t", "X0 X0", "58,30"],
+        'H' => &["58", "5", "058", "5A", "5g", "00", "ff", "0x", "X", "58:30"],
         'C' => &["h", "s", "cx", "H", "S", "CX", "cz", "hs", "c", "0"],
         _ => &["I", "i", "XY"],
     };
@@ -169,11 +177,22 @@ fn ends(kind: char, field: &str) -> Vec<String> {
     first.chain(wrong.map(str::to_string)).collect()
 }
 
+/// Texts as long as a list of bytes may be, and a byte longer; the rest of a line has no other end than the line's.
+fn texts(sink: Sink) {
+    for bytes in [LINE_TEXT, LINE_TEXT + 1] {
+        sink(format!("read 1 1 1 0 0 {}", " ".repeat(bytes)));
+        sink(format!("readx 1 1 1 0 0 {}", joined(&vec!["58"; bytes])));
+    }
+}
+
 /// Lent lengths at what a line may ask for, and one more.
 fn lengths(sink: Sink) {
-    for (most, head) in
-        [(LINE_WORDS, "matrix 1 1 1 0"), (LINE_LOG, "reduceall 1 1 1 0"), (LINE_LOG, "reduce 1 1 1 0 0 0 -")]
-    {
+    for (most, head) in [
+        (LINE_WORDS, "matrix 1 1 1 0"),
+        (LINE_LOG, "reduceall 1 1 1 0"),
+        (LINE_LOG, "reduce 1 1 1 0 0 0 -"),
+        (LINE_TEXT, "write 1 1 1 0 0"),
+    ] {
         sink(format!("{head} {most}"));
         sink(format!("{head} {}", most + 1));
     }

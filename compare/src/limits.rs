@@ -26,6 +26,9 @@ pub const LINE_LOG: usize = 140_000;
 /// Terms of a matrix element.
 pub const LINE_TERMS: usize = 65_600;
 
+/// Bytes of a text that is given as a list or lent; the rest of a line is as long as the line.
+pub const LINE_TEXT: usize = 24_000;
+
 /// Words of a state of many basis vectors.
 pub const LINE_VECTORS: usize = VECTORS + 64;
 

@@ -1,7 +1,7 @@
 //! The lines of docs/CALLS.md, read and written by one table of calls.
 
 use crate::gates::{self, Gate};
-use crate::limits::{LINE, LINE_LIST, LINE_LOG, LINE_ROWS, LINE_TERMS, LINE_VECTORS, LINE_WORDS};
+use crate::limits::{LINE, LINE_LIST, LINE_LOG, LINE_ROWS, LINE_TERMS, LINE_TEXT, LINE_VECTORS, LINE_WORDS};
 
 #[derive(Clone, Debug, PartialEq)]
 pub enum Field {
@@ -16,12 +16,16 @@ pub enum Field {
     Letter(char),
     Lengths([u64; 4]),
     Gate(Gate),
+    /// The text of a row as it stands, the rest of its line, and the same as a list of bytes.
+    Text(Vec<u8>),
+    TextBytes(Vec<u8>),
 }
 
 /// Each call with the kinds of its fields: n number, w word, W words of rows, B bytes, S list of u16, G log, V words of
 /// terms, I list of i32, K words of a state of many basis vectors, k list of i32 beside them, L letter, C a Clifford gate
-/// with its qubits; lent lengths: o words of a matrix, T four of a set to be written, u units of a log.
-pub const CALLS: [(&str, &str); 21] = [
+/// with its qubits, R the rest of the line, H list of bytes of a text; lent lengths: o words of a matrix, T four of a set to
+/// be written, u units of a log, t bytes of a text.
+pub const CALLS: [(&str, &str); 24] = [
     ("phase1", "wwww"),
     ("act1", "www"),
     ("get", "nWWBnn"),
@@ -36,6 +40,9 @@ pub const CALLS: [(&str, &str); 21] = [
     ("pair", "nWWBWWBT"),
     ("imul", "nWWBnn"),
     ("gate", "nWWBC"),
+    ("write", "nWWBnt"),
+    ("read", "nWWBnR"),
+    ("readx", "nWWBnH"),
     ("reduce", "nWWBSSSu"),
     ("reduceall", "nWWBu"),
     ("check", "nWWBSSSGWWB"),
@@ -99,9 +106,17 @@ impl Case {
         }
     }
 
+    pub fn text(&self, i: usize) -> &[u8] {
+        match &self.fields[i] {
+            Field::Text(v) | Field::TextBytes(v) => v,
+            _ => unreachable!("field {i} of {}", self.call),
+        }
+    }
+
+    /// Behind the last number of a line with the empty text nothing stands.
     pub fn line(&self) -> String {
         let mut out = self.call.to_string();
-        for field in &self.fields {
+        for field in self.fields.iter().filter(|field| **field != Field::Text(vec![])) {
             out.push(' ');
             out.push_str(&written(field));
         }
@@ -119,12 +134,16 @@ pub fn parsed(line: &str) -> Option<Case> {
     if line.len() >= LINE {
         return None;
     }
-    let mut parts = line.split(' ');
-    let name = parts.next()?;
+    let name = line.split(' ').next()?;
     let (call, kinds) = CALLS.iter().find(|c| c.0 == name)?;
+    // the rest of a line is one part, whatever spaces it has
+    let most = if kinds.ends_with('R') { kinds.len() + 1 } else { usize::MAX };
+    let mut parts = line.splitn(most, ' ').skip(1);
     let mut fields = vec![];
     for kind in kinds.chars() {
         fields.push(match kind {
+            // behind one space; where not even the space stands there, the empty text
+            'R' => Field::Text(parts.next().unwrap_or("").as_bytes().to_vec()),
             'C' => Field::Gate(gates::parsed(&mut parts, |text| decimal(text, u64::MAX))?),
             _ => field(kind, parts.next()?)?,
         });
@@ -156,8 +175,15 @@ fn field(kind: char, text: &str) -> Option<Field> {
         'L' => Field::Letter(letter(text)?),
         'o' => Field::Number(decimal(text, LINE_WORDS as u64)?),
         'u' => Field::Number(decimal(text, LINE_LOG as u64)?),
+        't' => Field::Number(decimal(text, LINE_TEXT as u64)?),
+        'H' => Field::TextBytes(list(text, LINE_TEXT, byte)?),
         _ => Field::Lengths(lengths(text)?),
     })
+}
+
+/// A byte: two digits in lower case.
+fn byte(text: &str) -> Option<u8> {
+    hex(text).filter(|_| text.len() == 2).map(|v| v as u8)
 }
 
 fn short(text: &str) -> Option<u16> {
@@ -232,6 +258,8 @@ fn written(field: &Field) -> String {
         Field::Letter(v) => v.to_string(),
         Field::Lengths(v) => joined(v),
         Field::Gate(gate) => gate.text(),
+        Field::Text(v) => String::from_utf8(v.clone()).expect("the rest of a line is UTF-8"),
+        Field::TextBytes(v) => joined(&v.iter().map(|byte| format!("{byte:02x}")).collect::<Vec<_>>()),
     }
 }
 

@@ -22,6 +22,7 @@ mod reduction;
 mod rows;
 mod small;
 mod states;
+mod texts;
 mod undoing;
 mod valid;
 mod whole;

@@ -6,6 +6,7 @@ use crate::limits::{QUBITS, ROWS, TERMS, VECTORS};
 use crate::line::{hexes, joined, parsed, Case, Field};
 use crate::reduction::{first_bad, is_reduced, reduce, replay, walk_back, Lists};
 use crate::rows::*;
+use crate::texts;
 
 pub fn answer(line: &str) -> String {
     match parsed(line) {
@@ -64,6 +65,8 @@ fn refusal_of_sets(case: &Case) -> Option<u8> {
         (7, Box::new(|| repeated_in(case, places_of(case).map(|places| places.1)))),
         (15, Box::new(|| repeated_in(case, places_of(case).and_then(|places| places.0)))),
         (9, Box::new(|| log_of(case).is_some_and(|log| log.len() % 2 == 1))),
+        (13, Box::new(|| matches!(case.call, "read" | "readx") && texts::read(size, case.text(5)).is_none())),
+        (14, Box::new(|| case.call == "write" && text_of_row(case).len() as u64 > case.number(5))),
     ])
 }
 
@@ -107,7 +110,7 @@ fn number_too_large(case: &Case, n: usize, m: usize) -> bool {
     let columns = |i: usize| case.shorts(i).iter().any(|column| *column as usize >= 2 * n);
     match case.call {
         "get" | "set" => row(4) || case.number(5) >= n as u64,
-        "count" | "central" | "act" => row(4),
+        "count" | "central" | "act" | "write" | "read" | "readx" => row(4),
         "phase" | "phaset" | "comm" | "imul" => row(4) || row(5),
         "reduce" | "check" => columns(4) || rows(5) || rows(6),
         "undo" => rows(4) || rows(5),
@@ -249,7 +252,25 @@ fn over_set(case: &Case) -> String {
             rows.iter_mut().for_each(|row| conjugate(row, case.gate(4)));
             format!("ok {}", rows_text(n, &rows))
         }
+        "write" => written(&text_of_row(case)),
+        "read" | "readx" => {
+            rows[case.number(4) as usize].paulis = texts::read(n, case.text(5)).expect("the text of a row");
+            format!("ok {}", rows_text(n, &rows))
+        }
         _ => reduction(case, n, rows),
+    }
+}
+
+/// The text of the row that a `write` names.
+fn text_of_row(case: &Case) -> String {
+    let rows = unpacked(case.number(0) as usize, &set_at(case, 1));
+    texts::written(&rows[case.number(4) as usize].paulis)
+}
+
+fn written(text: &str) -> String {
+    match text {
+        "" => "ok 0".to_string(),
+        _ => format!("ok {} {text}", text.len()),
     }
 }
 

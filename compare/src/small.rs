@@ -3,10 +3,10 @@
 use crate::limits::QUBITS;
 use crate::line::{Case, Field, CALLS};
 use crate::random::Random;
-use crate::rows::Set;
+use crate::rows::{unpacked, Set};
 use crate::states;
 use crate::valid::{call_on, of_call, of_terms, over_rows, rows};
-use crate::{faults, gates};
+use crate::{faults, gates, texts};
 
 pub type Sink<'a> = &'a mut dyn FnMut(String);
 
@@ -85,6 +85,14 @@ fn over_set(n: usize, m: usize, set: &Set, sink: Sink) {
             let state = if n == 0 { vec![] } else { vec![state] };
             put("act", [numbers(&[row]), vec![Field::Words(state)]].concat());
         }
+        for bytes in [1, 2, 5] {
+            put("write", numbers(&[row, bytes]));
+        }
+        // the text of the next row into this one
+        let next =
+            unpacked(n, set).get((row + 1) % m.max(1)).map_or(String::new(), |next| texts::written(&next.paulis));
+        put("read", [numbers(&[row]), vec![Field::Text(next.clone().into())]].concat());
+        put("readx", [numbers(&[row]), vec![Field::TextBytes(next.into())]].concat());
     }
 }
 

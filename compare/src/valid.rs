@@ -6,7 +6,7 @@ use crate::line::{Case, Field, CALLS};
 use crate::random::Random;
 use crate::reduction::{reduce, replay, Lists};
 use crate::rows::{multiply, packed, unpacked, words_for, Pauli, Row, Set, LETTERS};
-use crate::states;
+use crate::{states, texts};
 
 /// Qubits and rows: mostly few, some at the edges of words, few at the limits.
 pub fn sizes(random: &mut Random) -> (usize, usize) {
@@ -23,11 +23,11 @@ pub fn sizes(random: &mut Random) -> (usize, usize) {
     }
 }
 
-fn dense(random: &mut Random, n: usize) -> Vec<Pauli> {
+pub fn dense(random: &mut Random, n: usize) -> Vec<Pauli> {
     (0..n).map(|_| random.pick(&LETTERS)).collect()
 }
 
-fn sparse(random: &mut Random, n: usize) -> Vec<Pauli> {
+pub fn sparse(random: &mut Random, n: usize) -> Vec<Pauli> {
     let mut out = vec![Pauli::I; n];
     for _ in 0..random.below(4).min(n) {
         out[random.below(n)] = random.pick(&LETTERS);
@@ -73,7 +73,7 @@ pub fn call_on(call: &str, n: usize, set: &Set, more: Vec<Field>) -> Case {
 }
 
 /// A number below n, or 0.
-fn some(random: &mut Random, n: usize) -> Field {
+pub fn some(random: &mut Random, n: usize) -> Field {
     Field::Number(random.below(n.max(1)) as u64)
 }
 
@@ -130,6 +130,9 @@ pub fn over_rows(random: &mut Random, call: &str, n: usize, rows: Vec<Row>) -> C
             vec![Field::Number(units(random, &rows, lists))]
         }
         "gate" => vec![Field::Gate(gates::random(random, n))],
+        "write" => texts::to_be_written(random, &rows),
+        "read" => vec![some(random, m), Field::Text(texts::random(random, n, true))],
+        "readx" => vec![some(random, m), Field::TextBytes(texts::random(random, n, false))],
         "reduce" => reduction(random, n, &rows),
         "undo" => walked(random, n, &rows),
         _ => check(random, n, &rows),

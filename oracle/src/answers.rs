@@ -55,6 +55,7 @@ fn over_set(call: &str, n: usize, set: Set, f: &mut Fields) -> Option<String> {
         "pair" => pair(n, set, f),
         "imul" => imul(n, set, f),
         "gate" => gate(set, f),
+        "write" => write(rows, f),
         "reduce" => reduce(n, set, f),
         "reduceall" => reduce_all(n, set, f),
         "check" => replay(set, f),
@@ -165,6 +166,12 @@ fn gate(mut set: Set, f: &mut Fields) -> Option<String> {
     };
     set.conj_clifford(gate);
     Some(format!("ok {}", set_text(&set)))
+}
+
+/// The text of a row behind its length, which stands alone where it is 0.
+fn write(rows: &CmpntList, f: &mut Fields) -> Option<String> {
+    let text = rows.fmt_elem(f.number()?);
+    Some(format!("ok {} {text}", text.len()).trim_end().to_string())
 }
 
 fn reduce(n: usize, set: Set, f: &mut Fields) -> Option<String> {
