@@ -13,7 +13,7 @@ use lib.Arith.{lt-of-le-ne}
 use lib.Dec.{ltb, eqb}
 use lib.ListN.{length, getD}
 use Rattle.encoding.specs.Words.{bit}
-use Rattle.encoding.specs.Refusals.{faultFrom, fault, joined, least, badLengths, otherLength, wrongLengths, differentRows, numberTests, doneOr, leftOr}
+use Rattle.encoding.specs.Refusals.{faultFrom, fault, joined, least, badLengths, wrongLengths, numberTests, doneOr, leftOr}
 use Rattle.encoding.specs.Set.{Mem, count, phaseUnits}
 use Rattle.encoding.specs.declared.Answer.the-variants.{Done, Refused}
 use Rattle.encoding.proofs.Scan.{none-of}
@@ -191,14 +191,6 @@ pub number-is : (large : Bool) → cond large 6 0 ≡ fault (numberTests large)
 unfolding faultFrom
 number-is large = refl
 
-pub different-is : (m k : ℕ) → cond (not (eqb k m)) 3 0 ≡ fault (differentRows m k)
-unfolding faultFrom
-different-is m k = refl
-
-pub same-rows : (m k : ℕ) → fault (differentRows m k) ≡ 0 → k ≡ m
-unfolding faultFrom
-same-rows m k e = eqb-true k m (not-false _ (not-large 2 (not (eqb k m)) e))
-
 -- ---- what a refusal comes to
 
 -- an answer by its number: where it is not 0 the refusal, where it is 0 what stands there
@@ -242,14 +234,12 @@ done-none (suc k) e = let z : _≡_ {A = ℕ} 0 1 = cc in absurd (omega arith)
 
 -- ---- lengths
 
-pub lengths-fit : (m w x z : ℕ) → badLengths m w x z ≡ false → (x ≡ m * w) × (z ≡ m * w)
-lengths-fit m w x z e =
-    let p = none-of (not (eqb x (m * w))) (not (eqb z (m * w))) e in
-    (eqb-true x (m * w) (not-false _ (p .0)), eqb-true z (m * w) (not-false _ (p .1)))
+pub lengths-fit : (m w x z p : ℕ) → badLengths m w x z p ≡ false → (x ≡ m * w) × (z ≡ m * w) × (p ≡ phaseUnits m)
+lengths-fit m w x z p e =
+    let a = none-of (not (eqb x (m * w))) _ e in
+    let b = none-of (not (eqb z (m * w))) (not (eqb p (phaseUnits m))) (a .1) in
+    (eqb-true x (m * w) (not-false _ (a .0)), eqb-true z (m * w) (not-false _ (b .0)), eqb-true p (phaseUnits m) (not-false _ (b .1)))
 
--- those of a set, its exponents' too
+-- those of a set
 pub set-lengths : (w : ℕ) (M : Mem) → wrongLengths w M ≡ false → (length (M .xs) ≡ count M * w) × (length (M .zs) ≡ count M * w) × (length (M .es) ≡ phaseUnits (count M))
-set-lengths w M e =
-    let p = none-of (badLengths (count M) w (length (M .xs)) (length (M .zs))) (otherLength M) e in
-    let l = lengths-fit (count M) w (length (M .xs)) (length (M .zs)) (p .0) in
-    (l .0, l .1, eqb-true (length (M .es)) (phaseUnits (count M)) (not-false _ (p .1)))
+set-lengths w M e = lengths-fit (count M) w (length (M .xs)) (length (M .zs)) (length (M .es)) e

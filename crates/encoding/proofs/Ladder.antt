@@ -1,17 +1,16 @@
 -- The table of a row set as the code climbs it, each test after those before it: what has failed so far makes the definition's tests before it false, and what
 -- holds makes its test the first. Assumes nothing.
-use mathlib.Core.Path.{_≡_, refl, sym, ap, ap₂, _∙_}
-use mathlib.Core.Bool.{Bool, true, false, cond, _||_, not}
+use mathlib.Core.Path.{_≡_, sym, ap, ap₂, _∙_}
+use mathlib.Core.Bool.{Bool, true, false, cond}
 use mathlib.Core.List.{List}
 use Prim.Native.Nat.{ℕ, suc, _-_, _%_, _≤_, _<_}
 use native.Mathlib.Nat.{suc-ne-zero}
 use borrow.Author.Tests.{lt-ltb, le-ltb, eq-eqb, ne-eqb}
-use lib.Dec.{eqb}
 use lib.ListN.{length, getD, drop}
 use Rattle.encoding.specs.Limits.{maxQubits, maxRows, wordsOf}
 use Rattle.encoding.specs.Words.{word, unbits}
-use Rattle.encoding.specs.Set.{Mem, count, phaseUnits, Valid}
-use Rattle.encoding.specs.Refusals.{faultFrom, fault, some, isOn, badLengths, badBits, badPhases, setTests, outTests, stateTests}
+use Rattle.encoding.specs.Set.{Mem, count, Valid}
+use Rattle.encoding.specs.Refusals.{faultFrom, fault, some, isOn, wrongLengths, badBits, badPhases, setTests, outTests, stateTests}
 use Rattle.encoding.proofs.WordLaws.{Fit}
 use Rattle.encoding.proofs.Spare.{spare-none, spare-last}
 use Rattle.encoding.proofs.States.{state-spare}
@@ -31,42 +30,35 @@ module _ (n : ℕ) (M : Mem) where
   stop-2 h g = simp (le-ltb _ _ h, lt-ltb _ _ g)
 
   module _ (w : ℕ) (h1 : n ≤ maxQubits) (h2 : count M ≤ maxRows) (hw : w ≡ wordsOf n) where
-    pub stop-3 : badLengths (count M) w (length (M .xs)) (length (M .zs)) ≡ true → 3 ≡ fault (setTests n M)
+    pub stop-3 : wrongLengths w M ≡ true → 3 ≡ fault (setTests n M)
     unfolding faultFrom
-    stop-3 t = simp (le-ltb _ _ h1, le-ltb _ _ h2, ap (λ (k : ℕ). badLengths (count M) k (length (M .xs)) (length (M .zs))) (sym hw) ∙ t)
+    stop-3 t = simp (le-ltb _ _ h1, le-ltb _ _ h2, ap (λ (k : ℕ). wrongLengths k M) (sym hw) ∙ t)
 
-    pub go-on : badLengths (count M) w (length (M .xs)) (length (M .zs)) ≡ false → length (M .es) ≡ phaseUnits (count M) → (b4 b5 : Bool) (r4 r5 : ℕ)
-        → b4 ≡ badBits n (count M) w (M .xs) (M .zs) → b5 ≡ badPhases (M .es) → r5 ≡ cond b5 5 0 → r4 ≡ cond b4 4 r5 → r4 ≡ fault (setTests n M)
+    pub go-on : wrongLengths w M ≡ false → (b4 b5 : Bool) (r4 r5 : ℕ)
+        → b4 ≡ badBits n (count M) w (M .xs) (M .zs) → b5 ≡ badPhases (count M) (M .es) → r5 ≡ cond b5 5 0 → r4 ≡ cond b4 4 r5 → r4 ≡ fault (setTests n M)
     unfolding faultFrom
-    go-on t l b4 b5 r4 r5 e4 e5 q5 q4 =
-        simp (le-ltb _ _ h1, le-ltb _ _ h2, ap (λ (k : ℕ). badLengths (count M) k (length (M .xs)) (length (M .zs))) (sym hw) ∙ t, eq-eqb _ _ l)
+    go-on t b4 b5 r4 r5 e4 e5 q5 q4 =
+        simp (le-ltb _ _ h1, le-ltb _ _ h2, ap (λ (k : ℕ). wrongLengths k M) (sym hw) ∙ t)
         (q4 ∙ ap₂ (λ (b : Bool) (k : ℕ). cond b 4 k) (e4 ∙ ap (λ (k : ℕ). badBits n (count M) k (M .xs) (M .zs)) hw) (q5 ∙ ap (λ (b : Bool). cond b 5 0) e5))
 
   -- the number, and what it tells
-  pub told : Fit (M .xs) → Fit (M .zs) → {r : ℕ} → r ≡ fault (setTests n M) → (r ≡ fault (setTests n M)) × (r ≡ 0 → Valid n (wordsOf n) M)
-  told fx fz e = (e, λ z. valid-of n M fx fz (sym e ∙ z))
+  pub told : Fit (M .xs) → Fit (M .zs) → Fit (M .es) → {r : ℕ} → r ≡ fault (setTests n M) → (r ≡ fault (setTests n M)) × (r ≡ 0 → Valid n (wordsOf n) M)
+  told fx fz fe e = (e, λ z. valid-of n M fx fz fe (sym e ∙ z))
 
 -- ---- a set that is written only
 
-module _ (n m : ℕ) (M : Mem) where
-  pub out-1 : maxQubits < n → 1 ≡ fault (outTests n m M)
+module _ (n : ℕ) (M : Mem) where
+  pub out-1 : maxQubits < n → 1 ≡ fault (outTests n M)
   unfolding faultFrom
   out-1 h = simp (lt-ltb _ _ h)
 
-  pub out-2 : n ≤ maxQubits → maxRows < count M → 2 ≡ fault (outTests n m M)
+  pub out-2 : n ≤ maxQubits → maxRows < count M → 2 ≡ fault (outTests n M)
   unfolding faultFrom
   out-2 h g = simp (le-ltb _ _ h, lt-ltb _ _ g)
 
-  or-none : (b : Bool) → b ≡ (b || false)
-  or-none true = refl
-  or-none false = refl
-
-  pub out-3 : (w : ℕ) (b : Bool) (r : ℕ) → n ≤ maxQubits → count M ≤ maxRows → length (M .es) ≡ phaseUnits (count M) → w ≡ wordsOf n
-      → b ≡ badLengths (count M) w (length (M .xs)) (length (M .zs)) → r ≡ cond (not (eqb (count M) m) || b) 3 0 → r ≡ fault (outTests n m M)
+  pub out-3 : (w : ℕ) (b : Bool) (r : ℕ) → n ≤ maxQubits → count M ≤ maxRows → w ≡ wordsOf n → b ≡ wrongLengths w M → r ≡ cond b 3 0 → r ≡ fault (outTests n M)
   unfolding faultFrom
-  out-3 w b r h1 h2 l hw eb er =
-      simp (le-ltb _ _ h1, le-ltb _ _ h2, eq-eqb _ _ l)
-      (er ∙ ap (λ (t : Bool). cond (not (eqb (count M) m) || t) 3 0) (eb ∙ ap (λ (k : ℕ). badLengths (count M) k (length (M .xs)) (length (M .zs))) hw ∙ or-none _))
+  out-3 w b r h1 h2 hw eb er = simp (le-ltb _ _ h1, le-ltb _ _ h2) (er ∙ ap (λ (t : Bool). cond t 3 0) (eb ∙ ap (λ (k : ℕ). wrongLengths k M) hw))
 
 -- ---- a lent basis state
 

@@ -1,4 +1,4 @@
--- A row set in memory. What refusals 1 to 5 leave is a row set; laying back what was read gives the same words and bytes; reading what was laid gives the
+-- A row set in memory. What refusals 1 to 5 leave is a row set; laying back what was read gives the same words; reading what was laid gives the
 -- rows. Assumes nothing.
 use mathlib.Core.Path.{_≡_, refl, sym, ap, ap₂, _∙_, subst}
 use mathlib.Core.Bool.{Bool, false}
@@ -24,7 +24,7 @@ use Rattle.encoding.proofs.Parts.{row-long, fit-part, rows-ext, row-lay
 use Rattle.encoding.proofs.Scan.{any-none}
 use Rattle.encoding.proofs.Spare.{off-all}
 use Rattle.encoding.proofs.Faults.{no-test, set-lengths}
-use Rattle.encoding.proofs.Exponents.{laid-from, laid-again, exponent-laid, exponent-past, small-exponents}
+use Rattle.encoding.proofs.Exponents.{laid-from, laid-again, exponent-laid, spare-none}
 
 -- ---- a row is packed when its words fit and its bits at n and above are zero
 
@@ -57,9 +57,9 @@ clean-of n w {xs} {zs} e h p =
 
 -- ---- what refusals 1 to 5 leave
 
-pub valid-of : (n : ℕ) (M : Mem) → Fit (M .xs) → Fit (M .zs) → fault (setTests n M) ≡ 0 → Valid n (wordsOf n) M
+pub valid-of : (n : ℕ) (M : Mem) → Fit (M .xs) → Fit (M .zs) → Fit (M .es) → fault (setTests n M) ≡ 0 → Valid n (wordsOf n) M
 unfolding badBits
-valid-of n M fx fz e =
+valid-of n M fx fz fe e =
     let m = count M in
     let w = wordsOf n in
     let no = no-test 0 (setTests n M) e in
@@ -71,8 +71,7 @@ valid-of n M fx fz e =
       x-long = l .0;
       z-long = l .1;
       packed = λ r h. packed-of n w (row-long m w r (M .xs) h (l .0)) (row-long m w r (M .zs) h (l .1)) (fit-part (r * w) (r * w + w) (M .xs) fx) (fit-part (r * w) (r * w + w) (M .zs) fz) (clean r h);
-      small = small-exponents (M .es) (l .2) (no 4);
-      exponents = laid-from m (exponentAt (M .es)) (l .2) (λ k h. refl);
+      exponents = laid-from m (exponentAt (M .es)) (l .2) fe (λ k h. refl) (spare-none (M .es) (l .2) (no 4));
     }
 
 -- the limits, from the same
@@ -101,7 +100,7 @@ module _ (n w : ℕ) {M : Mem} (v : Valid n w M) where
   pub clean : (r : ℕ) → r < count M → Clean n (row w r (M .xs)) (row w r (M .zs))
   clean r h = clean-of n w (row-count r h) (v .wide) (v .packed r h)
 
-  -- laying back what was read gives the same words and bytes
+  -- laying back what was read gives the same words
   pub lay-back : layIn w (count M) (rowsIn n w M) ≡ M
   unfolding layIn rowsIn
   lay-back =
@@ -149,13 +148,9 @@ module _ (n w m : ℕ) (σ : ℕ → Row) (wide : n ≤ w * 64) where
   unfolding layIn
   p-laid r h s = exponent-laid m (λ k. σ k .p) r h s
 
-  p-past : (r : ℕ) → m ≤ r → exponentAt (layIn w m σ .es) r ≡ 0
+  e-laid : layIn w m σ .es ≡ layExponents (layIn w m σ .m) (exponentAt (layIn w m σ .es))
   unfolding layIn
-  p-past r h = exponent-past m (λ k. σ k .p) r h
-
-  e-laid : ((r : ℕ) → r < m → σ r .p < 4) → layIn w m σ .es ≡ layExponents (layIn w m σ .m) (exponentAt (layIn w m σ .es))
-  unfolding layIn
-  e-laid s = laid-again m (λ k. σ k .p) s
+  e-laid = laid-again m (λ k. σ k .p)
 
   qubits-laid : (r : ℕ) → r < m → length (σ r .ps) ≡ n → qubits n (row w r (layIn w m σ .xs)) (row w r (layIn w m σ .zs)) ≡ σ r .ps
   qubits-laid r h l = ap₂ (qubits n) (x-laid r h) (z-laid r h) ∙ qubits-pack n w (σ r .ps) l wide
@@ -171,8 +166,7 @@ module _ (n w m : ℕ) (σ : ℕ → Row) (wide : n ≤ w * 64) where
         x-long = lays-x ∙ ap (λ (k : ℕ). k * w) (sym count-lay);
         z-long = lays-z ∙ ap (λ (k : ℕ). k * w) (sym count-lay);
         packed = λ r h. pk r (subst (λ (k : ℕ). r < k) count-lay h);
-        small = λ r. sm r (decLt r m);
-        exponents = e-laid (p .small);
+        exponents = e-laid;
       }
     where
       pk : (r : ℕ) → r < m → Packed n w (row w r (layIn w m σ .xs)) (row w r (layIn w m σ .zs))
@@ -181,10 +175,6 @@ module _ (n w m : ℕ) (σ : ℕ → Row) (wide : n ≤ w * 64) where
             x-is = x-laid r h ∙ ap (pack hasX w) (sym (qubits-laid r h (p .long r h)));
             z-is = z-laid r h ∙ ap (pack hasZ w) (sym (qubits-laid r h (p .long r h)));
           }
-
-      sm : (r : ℕ) → Dec (r < m) → exponentAt (layIn w m σ .es) r < 4
-      sm r (yes h) = subst (λ (k : ℕ). k < 4) (sym (p-laid r h (p .small r h))) (p .small r h)
-      sm r (no h) = subst (λ (k : ℕ). k < 4) (sym (p-past r (omega arith))) (omega arith)
 
 -- ---- the bits alone
 
@@ -195,13 +185,8 @@ bare-valid n w {M} v =
       x-long = v .x-long;
       z-long = v .z-long;
       packed = v .packed;
-      small = λ r. zero-small (M .m) r (decLt r (M .m));
-      exponents = laid-again (M .m) (λ _. 0) (λ k h. omega arith);
+      exponents = laid-again (M .m) (λ _. 0);
     }
-  where
-    zero-small : (m r : ℕ) → Dec (r < m) → exponentAt (layExponents m (λ _. 0)) r < 4
-    zero-small m r (yes h) = subst (λ (k : ℕ). k < 4) (sym (exponent-laid m (λ _. 0) r h (omega arith))) (omega arith)
-    zero-small m r (no h) = subst (λ (k : ℕ). k < 4) (sym (exponent-past m (λ _. 0) r (omega arith))) (omega arith)
 
 pub bare-sound : {n : ℕ} {M : Mem} → Sound n M → Sound n (bare (M .m) (M .xs) (M .zs))
 bare-sound {n} s = record { valid = bare-valid n (wordsOf n) (s .valid); few-qubits = s .few-qubits; few-rows = s .few-rows }

@@ -1,12 +1,11 @@
 -- Whole row sets: what the tests tell of one, and that they pass a row set within the limits; two sets whose rows agree; the set that holds given rows.
 -- Assumes nothing.
 use mathlib.Core.Path.{_≡_, refl, sym, ap, ap₂, _∙_, subst}
-use mathlib.Core.Bool.{Bool, false, cond, not, _||_}
+use mathlib.Core.Bool.{Bool, false, cond, _||_}
 use mathlib.Core.List.{List}
 use Prim.Native.Nat.{ℕ, _+_, _*_, _≤_, _<_}
 use native.Mathlib.Omega.{arith}
-use borrow.Author.Tests.{le-ltb, ltb-false, leb-false, eq-eqb, eqb-true, not-false}
-use lib.Dec.{eqb}
+use borrow.Author.Tests.{le-ltb, ltb-false, leb-false, eq-eqb}
 use lib.ListN.{length, getD, drop}
 use lib.Seq.{ext-getD}
 use Rattle.pauli.specs.declared.PauliMatrix.the-variants.{I}
@@ -15,14 +14,14 @@ use Rattle.pauli.specs.Row.{Row, bitRow}
 use Rattle.pauli.proofs.RowLaws.{same-bits}
 use Rattle.encoding.specs.Limits.{maxQubits, maxRows, wordsOf}
 use Rattle.encoding.specs.Words.{unpack, qubits, pack, layRows}
-use Rattle.encoding.specs.Set.{row, Mem, count, phaseUnits, exponentAt, layExponents, rowsIn, rowsOf, list, layIn, Valid, Sound}
-use Rattle.encoding.specs.Refusals.{faultFrom, fault, least, some, someBelow, isOn, wrongLengths, badBits, setTests, outTests, numberTests, tooLarge, readTests, rowsTests}
+use Rattle.encoding.specs.Set.{row, Mem, memOf, count, phaseUnits, exponentAt, layExponents, rowsIn, rowsOf, list, layIn, Valid, Sound}
+use Rattle.encoding.specs.Refusals.{faultFrom, fault, least, some, someBelow, isOn, badBits, setTests, outTests, numberTests, tooLarge, readTests, rowsTests}
 use Rattle.encoding.proofs.Padding.{of-only}
 use Rattle.encoding.proofs.Parts.{row-long, rows-ext, row-lay-list, length-lay-list}
 use Rattle.encoding.proofs.Reading.{length-qubits}
 use Rattle.encoding.proofs.Scan.{none-of, any-never}
 use Rattle.encoding.proofs.Faults.{no-test, set-lengths, joined-fault, least-none, not-large, number-is}
-use Rattle.encoding.proofs.Exponents.{laid-from, laid-long, exponents-same, small-exponents, passed-exponents}
+use Rattle.encoding.proofs.Exponents.{laid-long, exponents-same, exponent-small, spare-passes}
 use Rattle.encoding.proofs.Memory.{mem-eq, Proper, clean, row-count, within-limits}
 
 -- ---- the tests of a set that is read
@@ -43,7 +42,7 @@ read-proper n M e =
       long = λ r h.
           let x = row-long m w r (M .xs) h (l .0) in
           length-qubits n (row w r (M .xs)) (row w r (M .zs)) (row-long m w r (M .zs) h (l .1) ∙ sym x) (omega (arith, x));
-      small = λ r h. small-exponents (M .es) (l .2) (no 4) r;
+      small = λ r h. exponent-small (M .es) r;
     }
 
 -- a row set within the limits is passed, and so it is with a number that is not too large
@@ -55,7 +54,7 @@ set-passes n M s =
     let v = s .valid in
     let b4 : someBelow m (λ r. some isOn (drop n (unpack (row w r (M .xs)) (row w r (M .zs))))) ≡ false
     = any-never _ m (λ r h. of-only isOn I refl (drop n (unpack (row w r (M .xs)) (row w r (M .zs)))) (clean n w v r h)) in
-    let b5 = passed-exponents (M .es) (v .small) in
+    let b5 = spare-passes m (v .exponents) in
     simp (le-ltb maxQubits n (s .few-qubits), le-ltb maxRows m (s .few-rows), eq-eqb (length (M .xs)) (m * w) (v .x-long), eq-eqb (length (M .zs)) (m * w) (v .z-long), eq-eqb (length (M .es)) (phaseUnits m) (laid-long m (v .exponents)), b4, b5)
 
 pub read-passes : (n : ℕ) (M : Mem) → Sound n M → (large : Bool) → large ≡ false → fault (readTests n M large) ≡ 0
@@ -72,29 +71,26 @@ rows-in n M a b e =
     (p .0, leb-false (count M) a (q .0), leb-false (count M) b (q .1))
 
 -- what a set that is written only has, where it is passed
-pub record Shaped (n m : ℕ) (O : Mem) : Type 0 where
+pub record Shaped (n : ℕ) (O : Mem) : Type 0 where
   pub few-qubits : n ≤ maxQubits
   pub few-rows : count O ≤ maxRows
-  pub rows : count O ≡ m
   pub x-long : length (O .xs) ≡ count O * wordsOf n
   pub z-long : length (O .zs) ≡ count O * wordsOf n
   pub e-long : length (O .es) ≡ phaseUnits (count O)
 
-pub shape-of : (n m : ℕ) (O : Mem) → fault (outTests n m O) ≡ 0 → Shaped n m O
-shape-of n m O e =
-    let no = no-test 0 (outTests n m O) e in
-    let s = none-of (not (eqb (count O) m)) (wrongLengths (wordsOf n) O) (no 2) in
-    let l = set-lengths (wordsOf n) O (s .1) in
+pub shape-of : (n : ℕ) (O : Mem) → fault (outTests n O) ≡ 0 → Shaped n O
+shape-of n O e =
+    let no = no-test 0 (outTests n O) e in
+    let l = set-lengths (wordsOf n) O (no 2) in
     record {
       few-qubits = ltb-false maxQubits n (no 0);
       few-rows = ltb-false maxRows (count O) (no 1);
-      rows = eqb-true (count O) m (not-false _ (s .0));
       x-long = l .0;
       z-long = l .1;
       e-long = l .2;
     }
 
--- ---- two sets of the same n and m: rows that agree in every bit have the same words, in every phase the same bytes
+-- ---- two sets of the same n and m: rows that agree in every bit have the same words, in every phase the same phase words
 
 module _ (n w : ℕ) {C D : Mem} (v : Valid n w C) (v′ : Valid n w D) (m : count C ≡ count D) where
   -- row k, by its qubits
@@ -115,28 +111,25 @@ module _ (n w : ℕ) {C D : Mem} (v : Valid n w C) (v′ : Valid n w D) (m : cou
       let at : (k : ℕ) → k < count C → (row w k (C .xs) ≡ row w k (D .xs)) × (row w k (C .zs) ≡ row w k (D .zs)) = λ k h. row-words k h (same-bits n _ _ (f k h)) in
       (rows-ext (count C) w (C .xs) (D .xs) (v .x-long) (v′ .x-long ∙ m′) (λ k h. at k h .0), rows-ext (count C) w (C .zs) (D .zs) (v .z-long) (v′ .z-long ∙ m′) (λ k h. at k h .1))
 
-  pub same-bytes : ((k : ℕ) → k < count C → rowsIn n w C k .p ≡ rowsIn n w D k .p) → C .es ≡ D .es
+  pub same-phases : ((k : ℕ) → k < count C → rowsIn n w C k .p ≡ rowsIn n w D k .p) → C .es ≡ D .es
   unfolding rowsIn
-  same-bytes f = exponents-same (count C) (v .exponents) (subst (λ (k : ℕ). D .es ≡ layExponents k (exponentAt (D .es))) (sym m) (v′ .exponents)) f
+  same-phases f = exponents-same (count C) (v .exponents) (subst (λ (k : ℕ). D .es ≡ layExponents k (exponentAt (D .es))) (sym m) (v′ .exponents)) f
 
--- ---- words and bytes that hold the rows are what is laid from them
+-- ---- words that hold the rows are what is laid from them
 
 -- of m rows the first r are held
-pub record Holds (w m r : ℕ) (σ : ℕ → Row) (M : Mem) : Type 0 where
-  pub x-long : length (M .xs) ≡ m * w
-  pub z-long : length (M .zs) ≡ m * w
-  pub many : count M ≡ m
-  pub p-long : length (M .es) ≡ phaseUnits m
-  pub x-row : (k : ℕ) → k < r → row w k (M .xs) ≡ pack hasX w (σ k .ps)
-  pub z-row : (k : ℕ) → k < r → row w k (M .zs) ≡ pack hasZ w (σ k .ps)
-  pub byte : (k : ℕ) → k < r → exponentAt (M .es) k ≡ σ k .p
+pub record Holds (w m r : ℕ) (σ : ℕ → Row) (xs zs : List ℕ) : Type 0 where
+  pub x-long : length xs ≡ m * w
+  pub z-long : length zs ≡ m * w
+  pub x-row : (k : ℕ) → k < r → row w k xs ≡ pack hasX w (σ k .ps)
+  pub z-row : (k : ℕ) → k < r → row w k zs ≡ pack hasZ w (σ k .ps)
 
-pub laid-by : {w m : ℕ} {σ : ℕ → Row} {M : Mem} → Holds w m m σ M → M ≡ layIn w m σ
+pub laid-by : {w m : ℕ} {σ : ℕ → Row} {xs zs es : List ℕ} → Holds w m m σ xs zs → es ≡ layExponents m (λ k. σ k .p) → memOf m xs zs es ≡ layIn w m σ
 unfolding layIn
-laid-by {w} {m} {σ} {M} h =
+laid-by {w} {m} {σ} {xs} {zs} h e =
     let ps : ℕ → List Pauli = λ k. σ k .ps in
     mem-eq
-    (h .many)
-    (rows-ext m w (M .xs) (layRows hasX w (list m ps)) (h .x-long) (length-lay-list hasX w m ps) (λ r l. h .x-row r l ∙ sym (row-lay-list hasX w m ps r l)))
-    (rows-ext m w (M .zs) (layRows hasZ w (list m ps)) (h .z-long) (length-lay-list hasZ w m ps) (λ r l. h .z-row r l ∙ sym (row-lay-list hasZ w m ps r l)))
-    (laid-from m (λ k. σ k .p) (h .p-long) (h .byte))
+    refl
+    (rows-ext m w xs (layRows hasX w (list m ps)) (h .x-long) (length-lay-list hasX w m ps) (λ r l. h .x-row r l ∙ sym (row-lay-list hasX w m ps r l)))
+    (rows-ext m w zs (layRows hasZ w (list m ps)) (h .z-long) (length-lay-list hasZ w m ps) (λ r l. h .z-row r l ∙ sym (row-lay-list hasZ w m ps r l)))
+    e

@@ -1,21 +1,21 @@
--- A set's slices in a contract: as they are lent, and of a call before and after it; and the bits of m rows alone. Assumes nothing.
+-- A set's slices in a contract, m rows of them: as they are lent, and of a call before and after it; and the bits of m rows alone. Assumes nothing.
 use mathlib.Core.List.{List}
 use Prim.Native.Nat.{ℕ}
 use denote.Ref.{RefT, now}
 use denote.Triple.Both.{Both}
-use Rattle.encoding.specs.Set.{Mem, memOf, mem, bare}
+use Rattle.encoding.specs.Set.{Mem, memOf, bare}
 
 abbrev Lent : Type 0
 Lent = RefT (List ℕ)
 
-abbrev pub lent : Lent → Lent → Lent → Mem
-lent x z p = mem (now x) (now z) (now p)
+abbrev pub lent : ℕ → Lent → Lent → Lent → Mem
+lent m x z p = memOf m (now x) (now z) (now p)
 
-abbrev pub before : {A B C : Type 0} → Both Lent A → Both Lent B → Both Lent C → Mem
-before x z p = lent (x .entry) (z .entry) (p .entry)
+abbrev pub before : {A B C : Type 0} → ℕ → Both Lent A → Both Lent B → Both Lent C → Mem
+before m x z p = lent m (x .entry) (z .entry) (p .entry)
 
-abbrev pub after : {A B C : Type 0} → Both A Lent → Both B Lent → Both C Lent → Mem
-after x z p = lent (x .exit) (z .exit) (p .exit)
+abbrev pub after : {A B C : Type 0} → ℕ → Both A Lent → Both B Lent → Both C Lent → Mem
+after m x z p = lent m (x .exit) (z .exit) (p .exit)
 
 abbrev pub bitsLent : ℕ → Lent → Lent → Mem
 bitsLent m x z = bare m (now x) (now z)
@@ -25,13 +25,3 @@ bitsBefore m x z = bitsLent m (x .entry) (z .entry)
 
 abbrev pub bitsAfter : {A B : Type 0} → ℕ → Both A Lent → Both B Lent → Mem
 bitsAfter m x z = bitsLent m (x .exit) (z .exit)
-
--- the same inside, where m is a number
-abbrev pub lentOf : ℕ → Lent → Lent → Lent → Mem
-lentOf m x z p = memOf m (now x) (now z) (now p)
-
-abbrev pub beforeOf : {A B C : Type 0} → ℕ → Both Lent A → Both Lent B → Both Lent C → Mem
-beforeOf m x z p = lentOf m (x .entry) (z .entry) (p .entry)
-
-abbrev pub afterOf : {A B C : Type 0} → ℕ → Both A Lent → Both B Lent → Both C Lent → Mem
-afterOf m x z p = lentOf m (x .exit) (z .exit) (p .exit)

@@ -1,5 +1,4 @@
--- RULES 3.1, the limits: n qubits, 0 to 4,096; m rows, 0 to 4,096. The code's MAX_QUBITS, MAX_ROWS, MAX_PHASE and MAX_COLUMNS
--- follow them. Assumes nothing.
+-- RULES 3.1, the limits: n qubits, 0 to 4,096; m rows, 0 to 4,096. The code's MAX_QUBITS, MAX_ROWS and MAX_COLUMNS follow them. Assumes nothing.
 use Prim.Native.Nat.{ℕ, _+_, _/_}
 
 abbrev pub maxQubits : ℕ
@@ -7,10 +6,6 @@ maxQubits = 4096
 
 abbrev pub maxRows : ℕ
 maxRows = 4096
-
--- a phase byte p, 0 to 3, means i to the p
-abbrev pub maxPhase : ℕ
-maxPhase = 3
 
 -- the words of a row: n/64 rounded up
 abbrev pub wordsOf : ℕ → ℕ

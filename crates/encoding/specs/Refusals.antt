@@ -2,12 +2,12 @@
 -- row sets, states and numbers stand here; those of orders, lists, logs and terms beside the calls that take them. Assumes nothing.
 use mathlib.Core.Bool.{Bool, false, cond, not, _||_}
 use mathlib.Core.List.{List, [], _∷_}
-use Prim.Native.Nat.{ℕ, zero, suc, _*_}
+use Prim.Native.Nat.{ℕ, zero, suc, _*_, _/_, _%_, _^_}
 use lib.Dec.{eqb, leb, ltb}
-use lib.ListN.{length, drop}
+use lib.ListN.{length, getD, drop}
 unfoldable pub use Rattle.pauli.specs.Lists.{some, someBelow}
 use Rattle.pauli.specs.Pauli.{Pauli, hasX, hasZ}
-use Rattle.encoding.specs.Limits.{maxQubits, maxRows, maxPhase, wordsOf}
+use Rattle.encoding.specs.Limits.{maxQubits, maxRows, wordsOf}
 use Rattle.encoding.specs.Words.{unpack, unbits}
 use Rattle.encoding.specs.Set.{row, Mem, count, phaseUnits}
 use Rattle.encoding.specs.declared.Answer.{Answer}
@@ -49,24 +49,20 @@ manyQubits n = ltb maxQubits n
 abbrev pub manyRows : ℕ → Bool
 manyRows m = ltb maxRows m
 
--- 3: the X and the Z words have not exactly m × w words each
-abbrev pub badLengths : ℕ → ℕ → ℕ → ℕ → Bool
-badLengths m w x z = not (eqb x (m * w)) || not (eqb z (m * w))
-
--- or the exponents are not as long as m of them are
-abbrev pub otherLength : Mem → Bool
-otherLength M = not (eqb (length (M .es)) (phaseUnits (count M)))
+-- 3: the X and the Z words have not exactly m × w words each, or the phase words are not as many as m exponents take
+abbrev pub badLengths : ℕ → ℕ → ℕ → ℕ → ℕ → Bool
+badLengths m w x z p = not (eqb x (m * w)) || (not (eqb z (m * w)) || not (eqb p (phaseUnits m)))
 
 abbrev pub wrongLengths : ℕ → Mem → Bool
-wrongLengths w M = badLengths (count M) w (length (M .xs)) (length (M .zs)) || otherLength M
+wrongLengths w M = badLengths (count M) w (length (M .xs)) (length (M .zs)) (length (M .es))
 
 -- 4: a bit set at n or above, in some row
 unfoldable pub badBits : ℕ → ℕ → ℕ → List ℕ → List ℕ → Bool
 badBits n m w xs zs = someBelow m (λ r. some isOn (drop n (unpack (row w r xs) (row w r zs))))
 
--- 5: a phase byte above 3
-unfoldable pub badPhases : List ℕ → Bool
-badPhases es = some (λ e. ltb maxPhase e) es
+-- 5: a bit set past the last exponent
+unfoldable pub badPhases : ℕ → List ℕ → Bool
+badPhases m es = not (eqb (getD es (m / 32) 0 / 2 ^ (2 * (m % 32))) 0)
 
 -- a set that is read: 1 to 5
 abbrev pub setTests : ℕ → Mem → List Bool
@@ -75,20 +71,12 @@ setTests n M =
     ∷ manyRows (count M)
     ∷ wrongLengths (wordsOf n) M
     ∷ badBits n (count M) (wordsOf n) (M .xs) (M .zs)
-    ∷ badPhases (M .es)
+    ∷ badPhases (count M) (M .es)
     ∷ []
 
--- a set that is written only, of m rows: its old content is not tested
-abbrev pub outTests : ℕ → ℕ → Mem → List Bool
-outTests n m M =
-    manyQubits n
-    ∷ manyRows (count M)
-    ∷ (not (eqb (count M) m) || wrongLengths (wordsOf n) M)
-    ∷ []
-
--- 3: sets of different m
-abbrev pub differentRows : ℕ → ℕ → List Bool
-differentRows m m′ = false ∷ false ∷ not (eqb m′ m) ∷ []
+-- a set that is written only: its old content is not tested
+abbrev pub outTests : ℕ → Mem → List Bool
+outTests n M = manyQubits n ∷ manyRows (count M) ∷ wrongLengths (wordsOf n) M ∷ []
 
 -- ---- states and numbers
 

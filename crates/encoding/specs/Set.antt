@@ -1,9 +1,9 @@
--- RULES 3, "How a row set lies in memory": n qubits, w words to a row, m rows, m being the length of the phase bytes; row r is the part of the words
--- from r × w up to, not including, (r+1) × w. Reading a set out of its words and bytes, and laying it back. Assumes nothing.
+-- RULES 3, "How a row set lies in memory": n qubits, w words to a row, m rows; row r is the part of the words from r × w up to, not including,
+-- (r+1) × w, and two bits of the phase words. Reading a set out of its words, and laying it back. Assumes nothing.
 use mathlib.Core.Path.{_≡_}
 use mathlib.Core.Bool.{Bool, cond, _&&_}
 use mathlib.Core.List.{List, [], _∷_}
-use Prim.Native.Nat.{ℕ, zero, suc, _+_, _-_, _*_, _/_, _%_, _≤_, _<_}
+use Prim.Native.Nat.{ℕ, zero, suc, _+_, _-_, _*_, _/_, _%_, _^_, _≤_, _<_}
 use lib.Dec.{ltb}
 use lib.ListN.{length, getD, take, drop, set}
 use Rattle.pauli.specs.Pauli.{Pauli, hasX, hasZ}
@@ -19,7 +19,7 @@ part a e xs = take (e - a) (drop a xs)
 abbrev pub row : ℕ → ℕ → List ℕ → List ℕ
 row w r xs = part (r * w) (r * w + w) xs
 
--- m rows: the X words, the Z words, the exponents
+-- m rows: the X words, the Z words, the phase words
 pub record Mem : Type 0 where
   pub m : ℕ
   pub xs : List ℕ
@@ -28,10 +28,6 @@ pub record Mem : Type 0 where
 
 abbrev pub memOf : ℕ → List ℕ → List ℕ → List ℕ → Mem
 memOf m xs zs es = record { m = m; xs = xs; zs = zs; es = es }
-
--- as it is lent: m is the number of phase bytes
-abbrev pub mem : List ℕ → List ℕ → List ℕ → Mem
-mem xs zs es = memOf (length es) xs zs es
 
 -- the number of rows
 abbrev pub count : Mem → ℕ
@@ -42,20 +38,39 @@ unfoldable pub list : {A : Type 0} → ℕ → (ℕ → A) → List A
 list zero f = []
 list (suc m) f = f 0 ∷ list m (λ k. f (suc k))
 
--- ---- exponents, a byte each: how many bytes m of them take, the exponent of row r, and m exponents laid
+-- ---- exponents, two bits each, 32 to a word: that of row r is in bits 2(r mod 32) and up of word r div 32. Spare bits are zero.
 
+-- how many words m of them take: m/32 rounded up
 abbrev pub phaseUnits : ℕ → ℕ
-phaseUnits m = m
+phaseUnits m = (m + 31) / 32
 
+-- number k of a word
+abbrev pub exponentIn : ℕ → ℕ → ℕ
+exponentIn v k = v / 2 ^ (2 * k) % 4
+
+-- the word with number k made e: what lies above it, e mod 4, what lies below it
+unfoldable pub withIn : ℕ → ℕ → ℕ → ℕ
+withIn v k e = (v / 2 ^ (2 * k) / 4 * 4 + e % 4) * 2 ^ (2 * k) + v % 2 ^ (2 * k)
+
+-- a word of d of them
+unfoldable pub wordIn : ℕ → (ℕ → ℕ) → ℕ
+wordIn zero f = 0
+wordIn (suc d) f = wordIn d (λ k. f (suc k)) * 4 + f 0 % 4
+
+-- the exponent of row r
 unfoldable pub exponentAt : List ℕ → ℕ → ℕ
-exponentAt es r = getD es r 0
+exponentAt es r = exponentIn (getD es (r / 32) 0) (r % 32)
+
+-- m exponents laid; there are none past the last
+abbrev pub inRows : ℕ → (ℕ → ℕ) → ℕ → ℕ
+inRows m f r = cond (ltb r m) (f r) 0
 
 unfoldable pub layExponents : ℕ → (ℕ → ℕ) → List ℕ
-layExponents m f = list m f
+layExponents m f = list (phaseUnits m) (λ j. wordIn 32 (λ k. inRows m f (j * 32 + k)))
 
 -- the exponent of row r has become v
 unfoldable pub withExponent : List ℕ → ℕ → ℕ → List ℕ
-withExponent es r v = set es r v
+withExponent es r v = set es (r / 32) (withIn (getD es (r / 32) 0) (r % 32) v)
 
 -- ---- rows
 
@@ -93,13 +108,12 @@ pub record Packed (n w : ℕ) (xs zs : List ℕ) : Type 0 where
   pub x-is : xs ≡ pack hasX w (qubits n xs zs)
   pub z-is : zs ≡ pack hasZ w (qubits n xs zs)
 
--- what refusals 1 to 5 leave: lengths fit, bits at n and above are zero, exponents are below 4 and lie as they should
+-- what refusals 1 to 5 leave: lengths fit, bits at n and above are zero, and so are the bits past the last exponent
 pub record Valid (n w : ℕ) (M : Mem) : Type 0 where
   pub wide : n ≤ w * 64
   pub x-long : length (M .xs) ≡ count M * w
   pub z-long : length (M .zs) ≡ count M * w
   pub packed : (r : ℕ) → r < count M → Packed n w (row w r (M .xs)) (row w r (M .zs))
-  pub small : (r : ℕ) → exponentAt (M .es) r < 4
   pub exponents : M .es ≡ layExponents (M .m) (exponentAt (M .es))
 
 -- the same within the limits

@@ -8,7 +8,7 @@ ghost use lib.ListN.{length, getD, drop, set};
 ghost use Rattle.pauli.specs.Pauli.{ofBits, hasX, hasZ};
 ghost use Rattle.encoding.specs.Limits.{maxQubits, maxRows, maxWords, wordsOf};
 ghost use Rattle.encoding.specs.Words.{odd, bitAt, withBit, word, unpack};
-ghost use Rattle.encoding.specs.Set.{exponentAt, withExponent, Valid, QubitSet};
+ghost use Rattle.encoding.specs.Set.{phaseUnits, exponentAt, withIn, withExponent, Valid, QubitSet};
 ghost use Rattle.encoding.specs.Lent.{before};
 ghost use Rattle.pauli.specs.declared.PauliMatrix.the-variants.{I};
 ghost use Rattle.encoding.specs.Refusals.{fault, least, some, isOn, badLengths, badBits, badPhases, setTests, outTests, stateTests};
@@ -20,9 +20,6 @@ use pauli::RowNumber;
 pub const MAX_QUBITS: usize = 4096;
 
 pub const MAX_ROWS: usize = 4096;
-
-// The largest phase byte.
-pub const MAX_PHASE: u8 = 3;
 
 // What a call answers that changes its buffers.
 pub enum Answer {
@@ -37,6 +34,13 @@ pub fn words(n: usize) -> usize
     n / 64 + (n % 64 + 63) / 64
 }
 
+// The phase words of m rows.
+pub fn phase_words(m: usize) -> usize
+    ensures { λ k. ⌜ k ≡ phaseUnits m ⌝ }
+{
+    m / 32 + (m % 32 + 31) / 32
+}
+
 // m rows of w words, within the limits.
 fn product(m: usize, w: usize) -> usize
     requires { ⌜ (m ≤ maxRows) × (w ≤ maxWords) ⌝ }
@@ -45,14 +49,15 @@ fn product(m: usize, w: usize) -> usize
     m * w
 }
 
-fn bad_lengths(m: usize, w: usize, x: usize, z: usize) -> bool
+fn bad_lengths(m: usize, w: usize, x: usize, z: usize, p: usize) -> bool
     requires { ⌜ (m ≤ maxRows) × (w ≤ maxWords) ⌝ }
-    ensures { λ b. ⌜ b ≡ badLengths m w x z ⌝ }
+    ensures { λ b. ⌜ b ≡ badLengths m w x z p ⌝ }
 {
     let size = product(m, w);
     let a = x != size;
     let b = z != size;
-    a | b
+    let c = p != phase_words(m);
+    a | (b | c)
 }
 
 // Whether a bit at k or above is set in x or z.
@@ -91,39 +96,44 @@ fn bad_bits(n: usize, w: usize, m: usize, x: &[u64], z: &[u64]) -> bool
     false
 }
 
-// Looks at every byte: a loop with no way out is compiled for many bytes at once.
-fn bad_phases(p: &[u8]) -> bool
-    ensures { λ b. ⌜ b ≡ badPhases (now (p .entry)) ⌝ }
+// Whether a bit past the last of m exponents is set: only the last word has such bits.
+fn bad_phases(m: usize, p: &[u64]) -> bool
+    ensures { λ b. ⌜ b ≡ badPhases m (now (p .entry)) ⌝ }
 {
-    let mut bad = false;
-    let mut i = 0;
-    while i < p.len() {
-        let b = MAX_PHASE < p[i];
-        bad = bad | b;
-        i += 1;
+    let j = m / 32;
+    if j < p.len() {
+        return (p[j] >> (2 * (m % 32))) != 0;
     }
-    bad
+    false
 }
 
-// The exponent of a row; past the last it is 0.
-pub fn get_exponent(p: &[u8], r: RowNumber) -> ComplexSign
+// The exponent of a row; past the last word it is 0.
+pub fn get_exponent(p: &[u64], r: RowNumber) -> ComplexSign
     ensures { λ e. ⌜ e .0 ≡ exponentAt (now (p .entry)) (r .0) ⌝ }
 {
-    let k = r.0;
-    if k < p.len() {
-        return ComplexSign(p[k]);
+    let j = r.0 / 32;
+    if j < p.len() {
+        return ComplexSign(((p[j] >> (2 * (r.0 % 32))) % 4) as u8);
     }
     ComplexSign(0)
 }
 
-// The exponent of a row becomes e; past the last nothing is done.
-pub fn set_exponent(p: &mut [u8], r: RowNumber, e: ComplexSign)
+// The word v, in which the exponent of a row lies, with that made e, mod 4, so that no carry gets into its neighbour.
+pub fn with_exponent(v: u64, r: RowNumber, e: ComplexSign) -> u64
+    ensures { λ v′. ⌜ v′ ≡ withIn v (r .0 % 32) (e .0) ⌝ }
+{
+    let s = 2 * (r.0 % 32);
+    let high = (v >> s) / 4 * 4 + (e.0 % 4) as u64;
+    (high << s) + v % (1u64 << s)
+}
+
+// The exponent of a row becomes e; past the last word nothing is done.
+pub fn set_exponent(p: &mut [u64], r: RowNumber, e: ComplexSign)
     ensures { λ _. ⌜ now (p .exit) ≡ withExponent (now (p .entry)) (r .0) (e .0) ⌝ }
 {
-    let k = r.0;
-    let v = e.0;
-    if k < p.len() {
-        p[k] = v;
+    let j = r.0 / 32;
+    if j < p.len() {
+        p[j] = with_exponent(p[j], r, e);
     }
 }
 
@@ -148,11 +158,10 @@ pub fn smaller(a: u8, b: u8) -> u8
 }
 
 // The first number of the table that fits a set that is read, or 0; then it is a row set.
-pub fn set_fault(n: usize, x: &[u64], z: &[u64], p: &[u8]) -> u8
-    ensures { λ r. ⌜ r ≡ fault (setTests n (before x z p)) ⌝ }
-    ensures valid { λ r. ⌜ (r ≡ 0 → Valid n (wordsOf n) (before x z p)) ⌝ }
+pub fn set_fault(n: usize, m: usize, x: &[u64], z: &[u64], p: &[u64]) -> u8
+    ensures { λ r. ⌜ r ≡ fault (setTests n (before m x z p)) ⌝ }
+    ensures valid { λ r. ⌜ (r ≡ 0 → Valid n (wordsOf n) (before m x z p)) ⌝ }
 {
-    let m = p.len();
     if MAX_QUBITS < n {
         return 1;
     }
@@ -160,26 +169,23 @@ pub fn set_fault(n: usize, x: &[u64], z: &[u64], p: &[u8]) -> u8
         return 2;
     }
     let w = words(n);
-    if bad_lengths(m, w, x.len(), z.len()) {
+    if bad_lengths(m, w, x.len(), z.len(), p.len()) {
         return 3;
     }
-    pick(bad_bits(n, w, m, x, z), 4, pick(bad_phases(p), 5, 0))
+    pick(bad_bits(n, w, m, x, z), 4, pick(bad_phases(m, p), 5, 0))
 }
 
-// The same of a set that is written only and has to have m rows.
-pub fn out_fault(n: usize, m: usize, x: &[u64], z: &[u64], p: &[u8]) -> u8
-    ensures { λ r. ⌜ r ≡ fault (outTests n m (before x z p)) ⌝ }
+// The same of a set that is written only.
+pub fn out_fault(n: usize, m: usize, x: &[u64], z: &[u64], p: &[u64]) -> u8
+    ensures { λ r. ⌜ r ≡ fault (outTests n (before m x z p)) ⌝ }
 {
-    let k = p.len();
     if MAX_QUBITS < n {
         return 1;
     }
-    if MAX_ROWS < k {
+    if MAX_ROWS < m {
         return 2;
     }
-    let a = k != m;
-    let b = bad_lengths(k, words(n), x.len(), z.len());
-    pick(a | b, 3, 0)
+    pick(bad_lengths(m, words(n), x.len(), z.len(), p.len()), 3, 0)
 }
 
 // The first number of the table that fits a lent basis state, or 0.

@@ -1,7 +1,7 @@
 use mathlib.Core.Path.{refl, sym}
-use lib.ListN.{List·getD-eq-default}
 use borrow.Author.Needs.{needs}
 use Rattle.encoding.specs.Set.{exponentAt}
+use Rattle.encoding.proofs.Exponents.{exponent-out}
 use Rattle.encoding.proofs.get_exponent.Statement.{statement}
 use Rattle.encoding.proofs.get_exponent.Tie as tie
 
@@ -10,8 +10,7 @@ unfolding exponentAt
 returns c = refl
 
 returns-2 : tie.Need-returns-2
-unfolding exponentAt
-returns-2 c = sym (List·getD-eq-default (c .before .args .p .now) 0 (c .if1 .left))
+returns-2 c = sym (exponent-out (c .before .before .args .p .now) (c .before .before .args .r .0) (c .if1 .left))
 
 pub get-exponent-spec : {M : Type 1} → statement M
-get-exponent-spec = tie.close (tie.spec (λ c. search needs) returns returns-2)
+get-exponent-spec = tie.close (tie.spec (λ c. search needs) (λ c. search needs) (λ c. search needs) (λ c. search needs) (λ c. search needs) returns returns-2)
