@@ -29,15 +29,15 @@ use Rattle.cmpnt_list.proofs.Meaning.{nothing, parts-ok, acted-long}
 
 -- ---- cmpnts_mul_pairwise
 
-module _ (n : ℕ) {L R O O′ : Mem} {cs cs′ : List ℕ} (wl : Words64 L) (wr : Words64 R) (c : MulPairwise n L R O O′ cs cs′ Done) where
+module _ (n : ℕ) {L R O O′ : Mem} {cs cs′ : List ℕ} (wl : Words64 L) (wr : Words64 R) (same : count R ≡ count L) (c : MulPairwise n L R O O′ cs cs′ Done) where
   none-fits : pairwiseFault n L R O (length cs) ≡ 0
   none-fits = done-none (pairwiseFault n L R O (length cs)) (sym (c .answer))
 
   both : BothReady n L R
-  both = pairwise-asked n O (length cs) wl wr none-fits .0
+  both = pairwise-asked n O (length cs) wl wr none-fits
 
   right-in : (k : ℕ) → k < count L → k < count R
-  right-in k h = subst (λ (j : ℕ). k < j) (sym (pairwise-asked n O (length cs) wl wr none-fits .1 .same)) h
+  right-in k h = subst (λ (j : ℕ). k < j) (sym same) h
 
   laid : O′ ≡ lay n (count L) (pairs n L R)
   laid = c .rows ∙ ap (λ (k : ℕ). leftOr k O (lay n (count L) (pairs n L R))) none-fits

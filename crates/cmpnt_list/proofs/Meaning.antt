@@ -32,7 +32,8 @@ use Rattle.pauli.proofs.RowLaws.{pad-mul}
 use Rattle.encoding.specs.declared.Answer.the-variants.{Done, Refused}
 use Rattle.encoding.proofs.BitLaws.{bit-lay}
 use Rattle.encoding.proofs.States.{state-long, length-state, state-back}
-use Rattle.encoding.proofs.Sets.{read-passes, same-bytes}
+use Rattle.encoding.proofs.Exponents.{exponent-small}
+use Rattle.encoding.proofs.Sets.{read-passes, same-phases}
 use Rattle.cmpnt_list.specs.Calls.{gotOr, tallyOr, phaseOr, truthOr, rowFault, rowsFault, qubitFault, matrixFault, pairwiseFault, actionFault, laidMatrix, commuting, pairs, pairNumbers, getQubit, SetQubit, countIn, phaseOfMul, commutesWith, belongsToCentralizer, CompatibilityMatrix, MulPairwise, ImulState}
 use Rattle.cmpnt_list.specs.Workers.{Asked}
 use Rattle.cmpnt_list.specs.declared.Got.the-variants as got
@@ -165,7 +166,7 @@ module _ (n : ℕ) {M : Mem} {out out′ : List ℕ} (c : CompatibilityMatrix n 
 
 -- ---- cmpnts_mul_pairwise: the matrix of a row that is written is the product of the matrices of left and right, each with its phase
 
-module _ (n : ℕ) {L R O O′ : Mem} {cs cs′ : List ℕ} (wl : Words64 L) (wr : Words64 R) (c : MulPairwise n L R O O′ cs cs′ Done) where
+module _ (n : ℕ) {L R O O′ : Mem} {cs cs′ : List ℕ} (wl : Words64 L) (wr : Words64 R) (same : count R ≡ count L) (c : MulPairwise n L R O O′ cs cs′ Done) where
   no-fault : pairwiseFault n L R O (length cs) ≡ 0
   no-fault = done-none (pairwiseFault n L R O (length cs)) (sym (c .answer))
 
@@ -175,9 +176,9 @@ module _ (n : ℕ) {L R O O′ : Mem} {cs cs′ : List ℕ} (wl : Words64 L) (wr
       let w = wordsOf n in
       let m = count L in
       let g = pairwise-asked n O (length cs) wl wr no-fault in
-      let v = g .0 .left .valid in
+      let v = g .left .valid in
       let l = row-count n w v k h in
-      let r = row-count n w (g .0 .right .valid) k (subst (λ (j : ℕ). k < j) (sym (g .1 .same)) h) in
+      let r = row-count n w (g .right .valid) k (subst (λ (j : ℕ). k < j) (sym same) h) in
       let p = rowsOf n L k .ps in
       let q = rowsOf n R k .ps in
       ap (λ (N : Mem). rowsOf n N k) (c .rows ∙ ap (λ (j : ℕ). leftOr j O (lay n m (pairs n L R))) no-fault)
@@ -188,11 +189,7 @@ module _ (n : ℕ) {L R O O′ : Mem} {cs cs′ : List ℕ} (wl : Words64 L) (wr
       subst (λ (x : Row). Same n (times n (rowMatrix n (rowsOf n L k)) (rowMatrix n (rowsOf n R k))) (rowMatrix n x)) (sym (pairwise-rows k h))
       (row-product n (rowsOf n L k) (rowsOf n R k))
 
-  -- the bytes that enter are below 4: both sets are tested for 5
-  pub pairwise-small : (k : ℕ) → (exponentAt (L .es) k < 4) × (exponentAt (R .es) k < 4)
-  pairwise-small k = let g = pairwise-asked n O (length cs) wl wr no-fault in (g .0 .left .valid .small k, g .0 .right .valid .small k)
-
-  -- the bare rule of the Rust's `cmpnts_mul_pairwise`, phase(left, right) alone, gives the byte exactly where the two bytes add up to 0 mod 4
+  -- the bare rule of the Rust's `cmpnts_mul_pairwise`, phase(left, right) alone, gives the exponent exactly where the two exponents add up to 0 mod 4
   pub pairwise-bare : (k : ℕ) → k < count L
       → (exponentAt (O′ .es) k ≡ phaseOf n (rowsOf n L k) (rowsOf n R k)) ↔ ((exponentAt (L .es) k + exponentAt (R .es) k) % 4 ≡ 0)
   unfolding rowsIn
@@ -277,8 +274,8 @@ module _ (n : ℕ) {M : Mem} (w : Words64 M) (r q : ℕ) (p : Pauli) {M′ : Mem
       long k h (no ne) = ap (λ (x : Row). length (x .ps)) (with-other (rowsOf n M) r q p k ne) ∙ row-count n (wordsOf n) (asked .ready .valid) k h
 
       small : (k : ℕ) → Dec (k ≡ r) → withQubit (rowsOf n M) r q p k .p < 4
-      small k (yes e) = subst (λ (x : Row). x .p < 4) (sym (with-here (rowsOf n M) r q p k e)) (asked .ready .valid .small r)
-      small k (no ne) = subst (λ (x : Row). x .p < 4) (sym (with-other (rowsOf n M) r q p k ne)) (asked .ready .valid .small k)
+      small k (yes e) = subst (λ (x : Row). x .p < 4) (sym (with-here (rowsOf n M) r q p k e)) (exponent-small (M .es) r)
+      small k (no ne) = subst (λ (x : Row). x .p < 4) (sym (with-other (rowsOf n M) r q p k ne)) (exponent-small (M .es) k)
 
   -- the rows afterwards
   pub set-rows : (k : ℕ) → k < count M → rowsOf n M′ k ≡ withQubit (rowsOf n M) r q p k
@@ -316,7 +313,7 @@ module _ (n : ℕ) {M : Mem} (w : Words64 M) (r q : ℕ) (p : Pauli) {M′ : Mem
   pub set-bytes : M′ .es ≡ M .es
   unfolding rowsIn
   set-bytes =
-      same-bytes n (wordsOf n) (set-ready .valid) (asked .ready .valid) set-count
+      same-phases n (wordsOf n) (set-ready .valid) (asked .ready .valid) set-count
       (λ i h. let l : i < count M = subst (λ (k : ℕ). i < k) set-count h in ap (λ (x : Row). x .p) (set-rows i l) ∙ byte i (ℕ-discrete i r))
     where
       byte : (k : ℕ) → Dec (k ≡ r) → withQubit (rowsOf n M) r q p k .p ≡ exponentAt (M .es) k

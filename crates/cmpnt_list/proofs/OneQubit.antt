@@ -23,7 +23,7 @@ use Rattle.encoding.proofs.Qubits.{read-back, others-same}
 use Rattle.encoding.proofs.Reading.{length-qubits}
 use Rattle.encoding.proofs.Parts.{fit-part}
 use Rattle.encoding.proofs.Memory.{mem-eq, packed-of, clean, x-row, z-row}
-use Rattle.encoding.proofs.Exponents.{laid-long}
+use Rattle.encoding.proofs.Exponents.{laid-as}
 use Rattle.encoding.proofs.Sets.{laid-by}
 use Rattle.products.specs.Leaves.{Outside}
 use Rattle.products.proofs.PartLaws.{row-other}
@@ -94,15 +94,8 @@ module _ (n w : ℕ) {M : Mem} (v : Valid n w M) (r q : ℕ) (p : Pauli) (hr : r
     unfolding σ rowsIn
     one-row =
         laid-by
-        (record {
-          x-long = ox .long ∙ v .x-long;
-          z-long = oz .long ∙ v .z-long;
-          many = refl;
-          p-long = laid-long (count M) (v .exponents);
-          x-row = λ k h. xr k h (ℕ-discrete k r);
-          z-row = λ k h. zr k h (ℕ-discrete k r);
-          byte = λ k h. br k (ℕ-discrete k r);
-        })
+        (record { x-long = ox .long ∙ v .x-long; z-long = oz .long ∙ v .z-long; x-row = λ k h. xr k h (ℕ-discrete k r); z-row = λ k h. zr k h (ℕ-discrete k r) })
+        (laid-as (count M) (v .exponents) (λ k. withQubit (rowsIn n w M) r q p k .p) (λ k h. br k (ℕ-discrete k r)))
       where
         xr : (k : ℕ) → k < count M → Dec (k ≡ r) → row w k xs′ ≡ pack hasX w (withQubit (rowsIn n w M) r q p k .ps)
         xr k h (yes e) = ap (λ (j : ℕ). row w j xs′) e ∙ here .0 ∙ ap (λ (x : Row). pack hasX w (x .ps)) (sym (with-here (rowsIn n w M) r q p k e))

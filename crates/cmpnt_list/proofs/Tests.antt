@@ -6,7 +6,7 @@ use Prim.Native.Nat.{ℕ, _*_, _≤_, _<_}
 use borrow.Author.Tests.{leb-false, lt-ltb, le-ltb, eqb-true, not-false}
 use lib.Dec.{eqb, leb}
 use Rattle.encoding.specs.Limits.{maxRows, wordsOf}
-use Rattle.encoding.specs.Set.{Mem, count, phaseUnits, Valid}
+use Rattle.encoding.specs.Set.{Mem, count, Valid}
 use Rattle.encoding.specs.Refusals.{faultFrom, fault, joined, least, setTests, outTests, numberTests}
 use Rattle.encoding.proofs.Faults.{no-test, joined-fault, both-parts, least-none, not-large, number-is}
 use Rattle.encoding.proofs.WordLaws.{Fit}
@@ -31,11 +31,12 @@ module _ (n : ℕ) (M : Mem) (large : Bool) {f a b : ℕ} (ea : a ≡ fault (set
 pub record Words64 (M : Mem) : Type 0 where
   pub x-fit : Fit (M .xs)
   pub z-fit : Fit (M .zs)
+  pub p-fit : Fit (M .es)
 
 pub asked-of : (n : ℕ) {M : Mem} → Words64 M → (large : Bool) → readFault n M large ≡ 0 → Asked n M large
 asked-of n {M} f large z =
     let p = least-none (fault (setTests n M)) (fault (numberTests large)) (joined-fault (setTests n M) (numberTests large) ∙ z) in
-    record { ready = sound-of n M refl (valid-of n M (f .x-fit) (f .z-fit)) (p .0); small = not-large 5 large (number-is large ∙ p .1) }
+    record { ready = sound-of n M refl (valid-of n M (f .x-fit) (f .z-fit) (f .p-fit)) (p .0); small = not-large 5 large (number-is large ∙ p .1) }
 
 -- two numbers below their limits
 pub both-small : (m r n q : ℕ) → (leb m r || leb n q) ≡ false → (r < m) × (q < n)
@@ -66,32 +67,24 @@ both-ready n L R {f} {a} {b} ea eb ef v u z =
     let p = least-none a b (sym ef ∙ z) in
     record { left = sound-of n L ea v (p .0); right = sound-of n R eb u (p .1) }
 
-pub lengths-is : (m k q : ℕ) → cond (not (eqb k m) || not (eqb q m)) 3 0 ≡ fault (otherLengths m k q)
+pub lengths-is : (m q : ℕ) → cond (not (eqb q m)) 3 0 ≡ fault (otherLengths m q)
 unfolding faultFrom
-lengths-is m k q = refl
+lengths-is m q = refl
 
-pub third-ready : (n m k q : ℕ) (O : Mem) {f a b : ℕ} → a ≡ cond (not (eqb k m) || not (eqb q m)) 3 0 → b ≡ fault (outTests n m O) → f ≡ least a b → f ≡ 0
-    → ThirdReady n m k q O
-third-ready n m k q O {f} {a} {b} ea eb ef z =
+pub third-ready : (n q : ℕ) (O : Mem) {f a b : ℕ} → a ≡ cond (not (eqb q (count O))) 3 0 → b ≡ fault (outTests n O) → f ≡ least a b → f ≡ 0 → ThirdReady n q O
+third-ready n q O {f} {a} {b} ea eb ef z =
     let p = least-none a b (sym ef ∙ z) in
-    let s = shape-of n m O (sym eb ∙ p .1) in
-    let l = none-of (not (eqb k m)) (not (eqb q m)) (not-large 2 (not (eqb k m) || not (eqb q m)) (sym ea ∙ p .0)) in
+    let s = shape-of n O (sym eb ∙ p .1) in
     record {
-      same = eqb-true k m (not-false _ (l .0));
-      numbers = eqb-true q m (not-false _ (l .1));
-      rows = s .rows;
-      x-long = s .x-long ∙ ap (λ (j : ℕ). j * wordsOf n) (s .rows);
-      z-long = s .z-long ∙ ap (λ (j : ℕ). j * wordsOf n) (s .rows);
-      e-long = s .e-long ∙ ap phaseUnits (s .rows);
+      numbers = eqb-true q (count O) (not-false _ (not-large 2 (not (eqb q (count O))) (sym ea ∙ p .0)));
+      x-long = s .x-long;
+      z-long = s .z-long;
+      e-long = s .e-long;
     }
 
-pub pairwise-asked : (n : ℕ) {L R : Mem} (O : Mem) (q : ℕ) → Words64 L → Words64 R → pairwiseFault n L R O q ≡ 0
-    → BothReady n L R × ThirdReady n (count L) (count R) q O
+pub pairwise-asked : (n : ℕ) {L R : Mem} (O : Mem) (q : ℕ) → Words64 L → Words64 R → pairwiseFault n L R O q ≡ 0 → BothReady n L R
 pairwise-asked n {L} {R} O q f g z =
     let ts = joined (setTests n L) (setTests n R) in
-    let us = joined (otherLengths (count L) (count R) q) (outTests n (count L) O) in
-    let p = least-none (fault ts) (fault us) (joined-fault ts us ∙ z) in (
-      both-ready n L R refl refl (sym (joined-fault (setTests n L) (setTests n R))) (valid-of n L (f .x-fit) (f .z-fit)) (valid-of n R (g .x-fit) (g .z-fit)) (p .0),
-      third-ready n (count L) (count R) q O refl refl
-          (sym (joined-fault (otherLengths (count L) (count R) q) (outTests n (count L) O)) ∙ ap (λ (k : ℕ). least k (fault (outTests n (count L) O))) (sym (lengths-is (count L) (count R) q))) (p .1),
-    )
+    let us = joined (otherLengths (count L) q) (outTests n O) in
+    let p = least-none (fault ts) (fault us) (joined-fault ts us ∙ z) in
+    both-ready n L R refl refl (sym (joined-fault (setTests n L) (setTests n R))) (valid-of n L (f .x-fit) (f .z-fit) (f .p-fit)) (valid-of n R (g .x-fit) (g .z-fit) (g .p-fit)) (p .0)

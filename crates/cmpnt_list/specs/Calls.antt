@@ -106,12 +106,12 @@ pub record CompatibilityMatrix (n : ℕ) (M : Mem) (out out′ : List ℕ) (a : 
 
 -- ---- cmpnts_mul_pairwise: row i of the third set is left i times right i, by the product that rows of one set have, and number i that of the clashes
 
--- 3: the right set has k rows, or the lent numbers are q, not m
-abbrev pub otherLengths : ℕ → ℕ → ℕ → List Bool
-otherLengths m k q = false ∷ false ∷ (not (eqb k m) || not (eqb q m)) ∷ []
+-- 3: the lent numbers are q, not m
+abbrev pub otherLengths : ℕ → ℕ → List Bool
+otherLengths m q = false ∷ false ∷ not (eqb q m) ∷ []
 
 abbrev pub pairwiseFault : ℕ → Mem → Mem → Mem → ℕ → ℕ
-pairwiseFault n L R O q = fault (joined (joined (setTests n L) (setTests n R)) (joined (otherLengths (count L) (count R) q) (outTests n (count L) O)))
+pairwiseFault n L R O q = fault (joined (joined (setTests n L) (setTests n R)) (joined (otherLengths (count L) q) (outTests n O)))
 
 abbrev pub pairs : ℕ → Mem → Mem → ℕ → Row
 pairs n L R k = mulRow n (rowsOf n L k) (rowsOf n R k)

@@ -1,16 +1,19 @@
 -- What the private functions ask and leave: a set that passed its tests, where a row lies in it, what the masks count, and how far the loops over
 -- pairs of rows and over the rows of a product have come. Assumes nothing.
 use mathlib.Core.Path.{_≡_}
-use mathlib.Core.Bool.{Bool, false}
+use mathlib.Core.Bool.{Bool, false, cond}
 use mathlib.Core.List.{List}
-use Prim.Native.Nat.{ℕ, _+_, _-_, _*_, _≤_}
-use lib.ListN.{length}
-use Rattle.pauli.specs.Pauli.{Pauli}
+use Prim.Native.Nat.{ℕ, _+_, _-_, _*_, _^_, _≤_, _<_}
+use lib.Dec.{ltb}
+use lib.ListN.{length, getD}
+use Rattle.pauli.specs.Pauli.{Pauli, hasX, hasZ}
 use Rattle.pauli.specs.declared.PauliMatrix.the-variants.{I, X, Y, Z}
 use Rattle.pauli.specs.Row.{Row}
-use Rattle.pauli.specs.Rows.{holding, actOn, actPhaseOn}
+use Rattle.pauli.specs.Rows.{clashesOf, holding, actOn, actPhaseOn}
 use Rattle.encoding.specs.Limits.{wordsOf}
-use Rattle.encoding.specs.Set.{Mem, count, phaseUnits, Sound, stateOf, layState}
+use Rattle.encoding.specs.Words.{pack}
+use Rattle.encoding.specs.Set.{row, Mem, count, phaseUnits, exponentIn, inRows, rowsOf, Sound, stateOf, layState}
+use Rattle.cmpnt_list.specs.Calls.{pairs}
 
 -- no test of the set holds, and no number is too large
 pub record Asked (n : ℕ) (M : Mem) (large : Bool) : Type 0 where
@@ -22,18 +25,38 @@ pub record AskedMatrix (n : ℕ) (M : Mem) (size : ℕ) : Type 0 where
   pub ready : Sound n M
   pub fits : size ≡ count M * wordsOf (count M)
 
--- the same of the three sets of a pairwise product: a left one of m rows, a right one of k, and q lent numbers
+-- the same of the three sets of a pairwise product, and q lent numbers
 pub record BothReady (n : ℕ) (L R : Mem) : Type 0 where
   pub left : Sound n L
   pub right : Sound n R
 
-pub record ThirdReady (n m k q : ℕ) (O : Mem) : Type 0 where
-  pub same : k ≡ m
-  pub numbers : q ≡ m
-  pub rows : count O ≡ m
-  pub x-long : length (O .xs) ≡ m * wordsOf n
-  pub z-long : length (O .zs) ≡ m * wordsOf n
-  pub e-long : length (O .es) ≡ phaseUnits m
+pub record ThirdReady (n q : ℕ) (O : Mem) : Type 0 where
+  pub numbers : q ≡ count O
+  pub x-long : length (O .xs) ≡ count O * wordsOf n
+  pub z-long : length (O .zs) ≡ count O * wordsOf n
+  pub e-long : length (O .es) ≡ phaseUnits (count O)
+
+-- of a pairwise product r rows are written, with their numbers of clashes
+pub record Written (n : ℕ) (L R : Mem) (r : ℕ) (xs zs cs : List ℕ) : Type 0 where
+  pub x-long : length xs ≡ count L * wordsOf n
+  pub z-long : length zs ≡ count L * wordsOf n
+  pub c-long : length cs ≡ count L
+  pub x-row : (k : ℕ) → k < r → row (wordsOf n) k xs ≡ pack hasX (wordsOf n) (pairs n L R k .ps)
+  pub z-row : (k : ℕ) → k < r → row (wordsOf n) k zs ≡ pack hasZ (wordsOf n) (pairs n L R k .ps)
+  pub number : (k : ℕ) → k < r → getD cs k 0 ≡ clashesOf n (rowsOf n L k) (rowsOf n R k)
+
+-- the rows of phase word j end here, of m
+abbrev pub wordEnd : ℕ → ℕ → ℕ
+wordEnd m j = cond (ltb (m - j * 32) 32) m (j * 32 + 32)
+
+-- the rows of the words before word j, of m
+abbrev pub rowsBefore : ℕ → ℕ → ℕ
+rowsBefore m j = cond (ltb m (j * 32)) m (j * 32)
+
+-- word j of the product's phases, of which those below r are in it
+pub record PhasesOf (n : ℕ) (L R : Mem) (j r v : ℕ) : Type 0 where
+  pub fits : v < 2 ^ 64
+  pub each : (k : ℕ) → k < 32 → exponentIn v k ≡ inRows r (λ i. pairs n L R i .p) (j * 32 + k)
 
 -- row r of m rows of w words is the part from a to e
 pub record RowAt (r w m a e : ℕ) : Type 0 where

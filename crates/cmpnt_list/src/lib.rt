@@ -7,12 +7,12 @@ ghost use Rattle.pauli.specs.declared.PauliMatrix.the-variants.{I};
 ghost use Rattle.pauli.specs.Rows.{phaseOf, commute, central, countOf, withQubit};
 ghost use Rattle.encoding.specs.Limits.{maxQubits, maxRows, maxWords, wordsOf};
 ghost use Rattle.encoding.specs.Words.{word, unpack};
-ghost use Rattle.encoding.specs.Set.{exponentAt, withExponent, rowsOf, lay, Sound};
+ghost use Rattle.encoding.specs.Set.{phaseUnits, exponentAt, rowsOf, lay, Sound};
 ghost use Rattle.encoding.specs.Lent.{lent, before, after, bitsLent, bitsBefore, bitsAfter};
 ghost use Rattle.encoding.specs.Refusals.{fault, joined, setTests, outTests, stateTests};
 ghost use Rattle.products.specs.Leaves.{SameLength, ProductAt};
 ghost use Rattle.cmpnt_list.specs.Calls.{readFault, matrixTests, matrixFault, laidMatrix, commuting, otherLengths, pairs, pairNumbers, getQubit, SetQubit, countIn, phaseOfMul, commutesWith, belongsToCentralizer, CompatibilityMatrix, MulPairwise, ImulState};
-ghost use Rattle.cmpnt_list.specs.Workers.{Asked, AskedMatrix, BothReady, ThirdReady, RowAt, masked, fromMasks, StateActed};
+ghost use Rattle.cmpnt_list.specs.Workers.{Asked, AskedMatrix, BothReady, ThirdReady, RowAt, wordEnd, Written, PhasesOf, masked, fromMasks, StateActed};
 use encoding::Answer;
 use pauli::ComplexSign;
 use pauli::PauliMatrix;
@@ -48,12 +48,12 @@ pub enum Truth {
 struct Span(usize, usize);
 
 // The first number of the table that fits a set that is read and its call's numbers, or 0; large says that a number is too large.
-pub fn row_fault(n: usize, x: &[u64], z: &[u64], phases: &[u8], large: bool) -> u8
-    ensures { λ r. ⌜ r ≡ readFault n (before x z phases) large ⌝ }
-    ensures none { λ r. ⌜ (r ≡ 0 → Asked n (before x z phases) large) ⌝ }
+pub fn row_fault(n: usize, m: usize, x: &[u64], z: &[u64], phases: &[u64], large: bool) -> u8
+    ensures { λ r. ⌜ r ≡ readFault n (before m x z phases) large ⌝ }
+    ensures none { λ r. ⌜ (r ≡ 0 → Asked n (before m x z phases) large) ⌝ }
 {
     encoding::smaller(
-        encoding::set_fault(n, x, z, phases),
+        encoding::set_fault(n, m, x, z, phases),
         encoding::pick(large, 6, 0),
     )
 }
@@ -83,21 +83,22 @@ fn read_qubit(n: usize, m: usize, x: &[u64], z: &[u64], r: RowNumber, q: QubitNu
 // The Pauli at a qubit of a row.
 pub fn get_qubit(
     n: usize,
+    m: usize,
     x: &[u64],
     z: &[u64],
-    phases: &[u8],
+    phases: &[u64],
     row: RowNumber,
     qubit: QubitNumber,
 ) -> Got
-    ensures { λ a. ⌜ a ≡ getQubit n (before x z phases) (row .0) (qubit .0) ⌝ }
+    ensures { λ a. ⌜ a ≡ getQubit n (before m x z phases) (row .0) (qubit .0) ⌝ }
 {
-    let a = phases.len() <= row.0;
+    let a = m <= row.0;
     let b = n <= qubit.0;
-    let f = row_fault(n, x, z, phases, a | b);
+    let f = row_fault(n, m, x, z, phases, a | b);
     if f != 0 {
         return Got::Refused(f);
     }
-    Got::Is(read_qubit(n, phases.len(), x, z, row, qubit))
+    Got::Is(read_qubit(n, m, x, z, row, qubit))
 }
 
 // Qubit q of row r becomes a Pauli.
@@ -123,22 +124,23 @@ fn write_qubit(
 // A qubit of a row becomes a Pauli.
 pub fn set_qubit(
     n: usize,
+    m: usize,
     x: &mut [u64],
     z: &mut [u64],
-    phases: &[u8],
+    phases: &[u64],
     row: RowNumber,
     qubit: QubitNumber,
     pauli: PauliMatrix,
 ) -> Answer
-    ensures { λ a. ⌜ SetQubit n (before x z phases) (row .0) (qubit .0) pauli (after x z phases) a ⌝ }
+    ensures { λ a. ⌜ SetQubit n (before m x z phases) (row .0) (qubit .0) pauli (after m x z phases) a ⌝ }
 {
-    let a = phases.len() <= row.0;
+    let a = m <= row.0;
     let b = n <= qubit.0;
-    let f = row_fault(n, x, z, phases, a | b);
+    let f = row_fault(n, m, x, z, phases, a | b);
     if f != 0 {
         return Answer::Refused(f);
     }
-    write_qubit(n, phases.len(), x, z, row, qubit, pauli);
+    write_qubit(n, m, x, z, row, qubit, pauli);
     Answer::Done
 }
 
@@ -206,19 +208,20 @@ fn count_in(n: usize, m: usize, x: &[u64], z: &[u64], r: usize, pauli: PauliMatr
 // How many qubits of a row hold a Pauli.
 pub fn count(
     n: usize,
+    m: usize,
     x: &[u64],
     z: &[u64],
-    phases: &[u8],
+    phases: &[u64],
     row: RowNumber,
     pauli: PauliMatrix,
 ) -> Tally
-    ensures { λ a. ⌜ a ≡ countIn n (before x z phases) (row .0) pauli ⌝ }
+    ensures { λ a. ⌜ a ≡ countIn n (before m x z phases) (row .0) pauli ⌝ }
 {
-    let f = row_fault(n, x, z, phases, phases.len() <= row.0);
+    let f = row_fault(n, m, x, z, phases, m <= row.0);
     if f != 0 {
         return Tally::Refused(f);
     }
-    Tally::Number(count_in(n, phases.len(), x, z, row.0, pauli))
+    Tally::Number(count_in(n, m, x, z, row.0, pauli))
 }
 
 // The exponent of the product of rows a and b.
@@ -240,38 +243,40 @@ fn phase_rows(n: usize, m: usize, x: &[u64], z: &[u64], a: usize, b: usize) -> C
 // The exponent of the product of two rows, without the rows' own.
 pub fn phase_of_mul(
     n: usize,
+    m: usize,
     x: &[u64],
     z: &[u64],
-    phases: &[u8],
+    phases: &[u64],
     a: RowNumber,
     b: RowNumber,
 ) -> Phase
-    ensures { λ r. ⌜ r ≡ phaseOfMul n (before x z phases) (a .0) (b .0) ⌝ }
+    ensures { λ r. ⌜ r ≡ phaseOfMul n (before m x z phases) (a .0) (b .0) ⌝ }
 {
-    let i = phases.len() <= a.0;
-    let j = phases.len() <= b.0;
-    let f = row_fault(n, x, z, phases, i | j);
+    let i = m <= a.0;
+    let j = m <= b.0;
+    let f = row_fault(n, m, x, z, phases, i | j);
     if f != 0 {
         return Phase::Refused(f);
     }
-    Phase::Exponent(phase_rows(n, phases.len(), x, z, a.0, b.0))
+    Phase::Exponent(phase_rows(n, m, x, z, a.0, b.0))
 }
 
 // The exponent of the product of rows a and b, by look-ups.
 fn phase_rows_by_table(
     n: usize,
+    m: usize,
     x: &[u64],
     z: &[u64],
-    phases: &[u8],
+    phases: &[u64],
     a: usize,
     b: usize,
 ) -> ComplexSign
-    requires { ⌜ Sound n (lent x z phases) ⌝ }
-    requires { ⌜ (a < length (now phases)) × (b < length (now phases)) ⌝ }
-    ensures { λ r. ⌜ r .0 ≡ phaseOf n (rowsOf n (before x z phases) a) (rowsOf n (before x z phases) b) ⌝ }
+    requires { ⌜ Sound n (lent m x z phases) ⌝ }
+    requires { ⌜ (a < m) × (b < m) ⌝ }
+    ensures { λ r. ⌜ r .0 ≡ phaseOf n (rowsOf n (before m x z phases) a) (rowsOf n (before m x z phases) b) ⌝ }
 {
-    let s = row_span(a, n, phases.len());
-    let t = row_span(b, n, phases.len());
+    let s = row_span(a, n, m);
+    let t = row_span(b, n, m);
     let la = s.0;
     let le = s.1;
     let ra = t.0;
@@ -282,21 +287,22 @@ fn phase_rows_by_table(
 // The same exponent as `phase_of_mul` gives, on a chip that has no instruction for counting ones.
 pub fn phase_of_mul_by_table(
     n: usize,
+    m: usize,
     x: &[u64],
     z: &[u64],
-    phases: &[u8],
+    phases: &[u64],
     a: RowNumber,
     b: RowNumber,
 ) -> Phase
-    ensures { λ r. ⌜ r ≡ phaseOfMul n (before x z phases) (a .0) (b .0) ⌝ }
+    ensures { λ r. ⌜ r ≡ phaseOfMul n (before m x z phases) (a .0) (b .0) ⌝ }
 {
-    let i = phases.len() <= a.0;
-    let j = phases.len() <= b.0;
-    let f = row_fault(n, x, z, phases, i | j);
+    let i = m <= a.0;
+    let j = m <= b.0;
+    let f = row_fault(n, m, x, z, phases, i | j);
     if f != 0 {
         return Phase::Refused(f);
     }
-    Phase::Exponent(phase_rows_by_table(n, x, z, phases, a.0, b.0))
+    Phase::Exponent(phase_rows_by_table(n, m, x, z, phases, a.0, b.0))
 }
 
 // Whether rows a and b commute.
@@ -317,21 +323,22 @@ fn commute_rows(n: usize, m: usize, x: &[u64], z: &[u64], a: usize, b: usize) ->
 // Whether two rows commute.
 pub fn commutes_with(
     n: usize,
+    m: usize,
     x: &[u64],
     z: &[u64],
-    phases: &[u8],
+    phases: &[u64],
     a: RowNumber,
     b: RowNumber,
 ) -> Truth
-    ensures { λ r. ⌜ r ≡ commutesWith n (before x z phases) (a .0) (b .0) ⌝ }
+    ensures { λ r. ⌜ r ≡ commutesWith n (before m x z phases) (a .0) (b .0) ⌝ }
 {
-    let i = phases.len() <= a.0;
-    let j = phases.len() <= b.0;
-    let f = row_fault(n, x, z, phases, i | j);
+    let i = m <= a.0;
+    let j = m <= b.0;
+    let f = row_fault(n, m, x, z, phases, i | j);
     if f != 0 {
         return Truth::Refused(f);
     }
-    Truth::Is(commute_rows(n, phases.len(), x, z, a.0, b.0))
+    Truth::Is(commute_rows(n, m, x, z, a.0, b.0))
 }
 
 // Whether row r commutes with every row.
@@ -353,18 +360,19 @@ fn central_row(n: usize, m: usize, x: &[u64], z: &[u64], r: usize) -> bool
 // Whether a row commutes with every row of its set.
 pub fn belongs_to_centralizer(
     n: usize,
+    m: usize,
     x: &[u64],
     z: &[u64],
-    phases: &[u8],
+    phases: &[u64],
     row: RowNumber,
 ) -> Truth
-    ensures { λ a. ⌜ a ≡ belongsToCentralizer n (before x z phases) (row .0) ⌝ }
+    ensures { λ a. ⌜ a ≡ belongsToCentralizer n (before m x z phases) (row .0) ⌝ }
 {
-    let f = row_fault(n, x, z, phases, phases.len() <= row.0);
+    let f = row_fault(n, m, x, z, phases, m <= row.0);
     if f != 0 {
         return Truth::Refused(f);
     }
-    Truth::Is(central_row(n, phases.len(), x, z, row.0))
+    Truth::Is(central_row(n, m, x, z, row.0))
 }
 
 // The words of an m by m matrix of bits.
@@ -386,13 +394,13 @@ fn square_fault(m: usize, size: usize) -> u8
 }
 
 // The same of a set that is read and the matrix of its rows.
-fn matrix_fault(n: usize, x: &[u64], z: &[u64], phases: &[u8], size: usize) -> u8
-    ensures { λ r. ⌜ r ≡ matrixFault n (before x z phases) size ⌝ }
-    ensures none { λ r. ⌜ (r ≡ 0 → AskedMatrix n (before x z phases) size) ⌝ }
+fn matrix_fault(n: usize, m: usize, x: &[u64], z: &[u64], phases: &[u64], size: usize) -> u8
+    ensures { λ r. ⌜ r ≡ matrixFault n (before m x z phases) size ⌝ }
+    ensures none { λ r. ⌜ (r ≡ 0 → AskedMatrix n (before m x z phases) size) ⌝ }
 {
     encoding::smaller(
-        encoding::set_fault(n, x, z, phases),
-        square_fault(phases.len(), size),
+        encoding::set_fault(n, m, x, z, phases),
+        square_fault(m, size),
     )
 }
 
@@ -409,41 +417,49 @@ fn fill_matrix(n: usize, m: usize, x: &[u64], z: &[u64], out: &mut [u64])
 // Bit j of row i is set exactly when rows i and j commute.
 pub fn compatibility_matrix(
     n: usize,
+    m: usize,
     x: &[u64],
     z: &[u64],
-    phases: &[u8],
+    phases: &[u64],
     out: &mut [u64],
 ) -> Answer
-    ensures { λ a. ⌜ CompatibilityMatrix n (before x z phases) (now (out .entry)) (now (out .exit)) a ⌝ }
+    ensures { λ a. ⌜ CompatibilityMatrix n (before m x z phases) (now (out .entry)) (now (out .exit)) a ⌝ }
 {
-    let f = matrix_fault(n, x, z, phases, out.len());
+    let f = matrix_fault(n, m, x, z, phases, out.len());
     if f != 0 {
         return Answer::Refused(f);
     }
-    fill_matrix(n, phases.len(), x, z, out);
+    fill_matrix(n, m, x, z, out);
     Answer::Done
 }
 
 // The first number of the table that fits two sets that are read, or 0.
-fn both_fault(n: usize, lx: &[u64], lz: &[u64], lp: &[u8], rx: &[u64], rz: &[u64], rp: &[u8]) -> u8
-    ensures { λ r. ⌜ r ≡ fault (joined (setTests n (before lx lz lp)) (setTests n (before rx rz rp))) ⌝ }
-    ensures none { λ r. ⌜ (r ≡ 0 → BothReady n (before lx lz lp) (before rx rz rp)) ⌝ }
+fn both_fault(
+    n: usize,
+    m: usize,
+    lx: &[u64],
+    lz: &[u64],
+    lp: &[u64],
+    rx: &[u64],
+    rz: &[u64],
+    rp: &[u64],
+) -> u8
+    ensures { λ r. ⌜ r ≡ fault (joined (setTests n (before m lx lz lp)) (setTests n (before m rx rz rp))) ⌝ }
+    ensures none { λ r. ⌜ (r ≡ 0 → BothReady n (before m lx lz lp) (before m rx rz rp)) ⌝ }
 {
     encoding::smaller(
-        encoding::set_fault(n, lx, lz, lp),
-        encoding::set_fault(n, rx, rz, rp),
+        encoding::set_fault(n, m, lx, lz, lp),
+        encoding::set_fault(n, m, rx, rz, rp),
     )
 }
 
-// The first number that fits a left set of m rows, a right one of k, q lent numbers, and a third set that is written, or 0.
-fn third_fault(n: usize, m: usize, k: usize, q: usize, ox: &[u64], oz: &[u64], op: &[u8]) -> u8
-    ensures { λ r. ⌜ r ≡ fault (joined (otherLengths m k q) (outTests n m (before ox oz op))) ⌝ }
-    ensures none { λ r. ⌜ (r ≡ 0 → ThirdReady n m k q (before ox oz op)) ⌝ }
+// The first number that fits q lent numbers and a third set that is written, both of m rows, or 0.
+fn third_fault(n: usize, m: usize, q: usize, ox: &[u64], oz: &[u64], op: &[u64]) -> u8
+    ensures { λ r. ⌜ r ≡ fault (joined (otherLengths m q) (outTests n (before m ox oz op))) ⌝ }
+    ensures none { λ r. ⌜ (r ≡ 0 → ThirdReady n q (before m ox oz op)) ⌝ }
 {
-    let a = k != m;
-    let b = q != m;
     encoding::smaller(
-        encoding::pick(a | b, 3, 0),
+        encoding::pick(q != m, 3, 0),
         encoding::out_fault(n, m, ox, oz, op),
     )
 }
@@ -475,74 +491,115 @@ fn mul_part(
 }
 
 // The exponent of row r of a product: those of the two rows, and e.
-fn mul_exponents(lp: &[u8], rp: &[u8], op: &mut [u8], r: RowNumber, e: ComplexSign)
-    ensures { λ _. ⌜ now (op .exit) ≡ withExponent (now (op .entry)) (r .0)
-        ((exponentAt (now (lp .entry)) (r .0) + exponentAt (now (rp .entry)) (r .0) + e .0) % 4) ⌝ }
+fn mul_exponents(lp: &[u64], rp: &[u64], r: RowNumber, e: ComplexSign) -> ComplexSign
+    ensures { λ s. ⌜ s .0 ≡ (exponentAt (now (lp .entry)) (r .0) + exponentAt (now (rp .entry)) (r .0) + e .0) % 4 ⌝ }
 {
     let a = encoding::get_exponent(lp, r);
     let b = encoding::get_exponent(rp, r);
-    encoding::set_exponent(op, r, products::add_signs(a, b, e));
+    products::add_signs(a, b, e)
 }
 
-// Row by row, left times right is written into the third set, with its phase byte, and the number of clashes.
-fn mul_rows(
+// Where the rows of phase word j end, of m.
+fn rows_end(j: usize, m: usize) -> usize
+    requires { ⌜ (m ≤ maxRows) × (j < phaseUnits m) ⌝ }
+    ensures { λ e. ⌜ e ≡ wordEnd m j ⌝ }
+{
+    if m - j * 32 < 32 {
+        return m;
+    }
+    j * 32 + 32
+}
+
+// The rows of phase word j, left times right, are written into the third set, with their numbers of clashes; the word is returned.
+fn mul_word(
     n: usize,
+    m: usize,
+    j: usize,
     lx: &[u64],
     lz: &[u64],
-    lp: &[u8],
+    lp: &[u64],
     rx: &[u64],
     rz: &[u64],
-    rp: &[u8],
+    rp: &[u64],
     ox: &mut [u64],
     oz: &mut [u64],
-    op: &mut [u8],
     clashes: &mut [u16],
-)
-    requires { ⌜ BothReady n (lent lx lz lp) (lent rx rz rp) ⌝ }
-    requires { ⌜ ThirdReady n (length (now lp)) (length (now rp)) (length (now clashes)) (lent ox oz op) ⌝ }
-    ensures { λ _. ⌜ (after ox oz op ≡ lay n (length (now (lp .entry))) (pairs n (before lx lz lp) (before rx rz rp))) ×
-        (now (clashes .exit) ≡ pairNumbers n (before lx lz lp) (before rx rz rp)) ⌝ }
+) -> u64
+    requires { ⌜ BothReady n (lent m lx lz lp) (lent m rx rz rp) ⌝ }
+    requires { ⌜ (j < phaseUnits m) × Written n (lent m lx lz lp) (lent m rx rz rp) (j * 32) (now ox) (now oz) (now clashes) ⌝ }
+    ensures { λ v. ⌜ PhasesOf n (before m lx lz lp) (before m rx rz rp) j m v ⌝ }
+    ensures rows { λ v. ⌜ Written n (before m lx lz lp) (before m rx rz rp) (wordEnd m j) (now (ox .exit)) (now (oz .exit)) (now (clashes .exit)) ⌝ }
 {
-    let m = op.len();
-    let mut r = 0;
-    while r < m {
+    let end = rows_end(j, m);
+    let mut word = 0u64;
+    let mut r = j * 32;
+    while r < end {
         let s = row_span(r, n, m);
         let a = s.0;
         let e = s.1;
         let f = mul_part(a, e, lx, lz, rx, rz, ox, oz);
-        let i = f.phase;
-        mul_exponents(lp, rp, op, RowNumber(r), i);
+        let i = mul_exponents(lp, rp, RowNumber(r), f.phase);
+        word = encoding::with_exponent(word, RowNumber(r), i);
         clashes[r] = f.clashes;
         r += 1;
     }
+    word
 }
 
-// Each row of the left set times the same row of the right goes into a third set; its phase byte is the sum of theirs and of the
-// exponent of the product. The number of qubits that hold differing Paulis other than I is given for each row.
-pub fn cmpnts_mul_pairwise(
+// Word by word of the phases, left times right is written into the third set, with the numbers of clashes.
+fn mul_rows(
     n: usize,
+    m: usize,
     lx: &[u64],
     lz: &[u64],
-    lp: &[u8],
+    lp: &[u64],
     rx: &[u64],
     rz: &[u64],
-    rp: &[u8],
+    rp: &[u64],
     ox: &mut [u64],
     oz: &mut [u64],
-    op: &mut [u8],
+    op: &mut [u64],
+    clashes: &mut [u16],
+)
+    requires { ⌜ BothReady n (lent m lx lz lp) (lent m rx rz rp) ⌝ }
+    requires { ⌜ ThirdReady n (length (now clashes)) (lent m ox oz op) ⌝ }
+    ensures { λ _. ⌜ (after m ox oz op ≡ lay n m (pairs n (before m lx lz lp) (before m rx rz rp))) ×
+        (now (clashes .exit) ≡ pairNumbers n (before m lx lz lp) (before m rx rz rp)) ⌝ }
+{
+    let mut j = 0;
+    while j < op.len() {
+        op[j] = mul_word(n, m, j, lx, lz, lp, rx, rz, rp, ox, oz, clashes);
+        j += 1;
+    }
+}
+
+// Each row of the left set times the same row of the right goes into a third set; its exponent is the sum of theirs and of that of the
+// product. The number of qubits that hold differing Paulis other than I is given for each row.
+pub fn cmpnts_mul_pairwise(
+    n: usize,
+    m: usize,
+    lx: &[u64],
+    lz: &[u64],
+    lp: &[u64],
+    rx: &[u64],
+    rz: &[u64],
+    rp: &[u64],
+    ox: &mut [u64],
+    oz: &mut [u64],
+    op: &mut [u64],
     clashes: &mut [u16],
 ) -> Answer
-    ensures { λ a. ⌜ MulPairwise n (before lx lz lp) (before rx rz rp) (before ox oz op) (after ox oz op) (now (clashes .entry))
+    ensures { λ a. ⌜ MulPairwise n (before m lx lz lp) (before m rx rz rp) (before m ox oz op) (after m ox oz op) (now (clashes .entry))
         (now (clashes .exit)) a ⌝ }
 {
     let f = encoding::smaller(
-        both_fault(n, lx, lz, lp, rx, rz, rp),
-        third_fault(n, lp.len(), rp.len(), clashes.len(), ox, oz, op),
+        both_fault(n, m, lx, lz, lp, rx, rz, rp),
+        third_fault(n, m, clashes.len(), ox, oz, op),
     );
     if f != 0 {
         return Answer::Refused(f);
     }
-    mul_rows(n, lx, lz, lp, rx, rz, rp, ox, oz, op, clashes);
+    mul_rows(n, m, lx, lz, lp, rx, rz, rp, ox, oz, op, clashes);
     Answer::Done
 }
 
@@ -561,20 +618,21 @@ fn act_on(n: usize, m: usize, x: &[u64], z: &[u64], r: usize, state: &mut [u64])
 // A row acts on a lent basis state, which is changed in place; the exponent is returned, without the row's own.
 pub fn imul_state(
     n: usize,
+    m: usize,
     x: &[u64],
     z: &[u64],
-    phases: &[u8],
+    phases: &[u64],
     row: RowNumber,
     state: &mut [u64],
 ) -> Phase
-    ensures { λ a. ⌜ ImulState n (before x z phases) (row .0) (now (state .entry)) (now (state .exit)) a ⌝ }
+    ensures { λ a. ⌜ ImulState n (before m x z phases) (row .0) (now (state .entry)) (now (state .exit)) a ⌝ }
 {
     let f = encoding::smaller(
-        row_fault(n, x, z, phases, phases.len() <= row.0),
+        row_fault(n, m, x, z, phases, m <= row.0),
         encoding::state_fault(n, state),
     );
     if f != 0 {
         return Phase::Refused(f);
     }
-    Phase::Exponent(act_on(n, phases.len(), x, z, row.0, state))
+    Phase::Exponent(act_on(n, m, x, z, row.0, state))
 }

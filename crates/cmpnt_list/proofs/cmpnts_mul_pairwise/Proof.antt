@@ -7,7 +7,7 @@ use lib.ListN.{length}
 use Rattle.encoding.specs.declared.Answer.the-variants.{Refused}
 use Rattle.encoding.specs.Refusals.{doneOr, leftOr, joined, setTests, outTests}
 use Rattle.encoding.proofs.Faults.{least-none, refusing, passing, both-parts}
-use Rattle.encoding.specs.Set.{mem, count, lay}
+use Rattle.encoding.specs.Set.{memOf, count, lay}
 use Rattle.cmpnt_list.specs.Calls.{otherLengths, pairs, pairNumbers}
 use Rattle.cmpnt_list.proofs.cmpnts_mul_pairwise.Statement.{statement}
 use Rattle.cmpnt_list.proofs.cmpnts_mul_pairwise.Tie as tie
@@ -18,11 +18,11 @@ returns c =
     let k = c .before in
     let s = k .before .before .before .before .before .before .before .before .before .before .before .before .before .before .before .before in
     let a = s .args in
-    let L = mem (a .lx .now) (a .lz .now) (a .lp .now) in
-    let R = mem (a .rx .now) (a .rz .now) (a .rp .now) in
-    let O = mem (a .ox .now) (a .oz .now) (a .op .now) in
+    let L = memOf (a .m) (a .lx .now) (a .lz .now) (a .lp .now) in
+    let R = memOf (a .m) (a .rx .now) (a .rz .now) (a .rp .now) in
+    let O = memOf (a .m) (a .ox .now) (a .oz .now) (a .op .now) in
     let cs = a .clashes .now in
-    let e = both-parts (joined (setTests (a .n) L) (setTests (a .n) R)) (joined (otherLengths (count L) (count R) (length cs)) (outTests (a .n) (count L) O)) (k .before .before .before .before .before .both-fault .ensures .0) (k .before .third-fault .ensures .0) (k .smaller .ensures) in
+    let e = both-parts (joined (setTests (a .n) L) (setTests (a .n) R)) (joined (otherLengths (count L) (length cs)) (outTests (a .n) O)) (k .before .before .before .before .before .both-fault .ensures .0) (k .before .third-fault .ensures .0) (k .smaller .ensures) in
     record {
       answer = refusing Refused doneOr (λ k. refl) e (c .if1 .taken);
       rows = refusing (λ (k : ℕ). O) (λ (k : ℕ). leftOr k O (lay (a .n) (count L) (pairs (a .n) L R))) (λ k. refl) e (c .if1 .taken);
@@ -45,11 +45,11 @@ returns-2 c =
     let k = i .before in
     let s = k .before .before .before .before .before .before .before .before .before .before .before .before .before .before .before .before in
     let a = s .args in
-    let L = mem (a .lx .now) (a .lz .now) (a .lp .now) in
-    let R = mem (a .rx .now) (a .rz .now) (a .rp .now) in
-    let O = mem (a .ox .now) (a .oz .now) (a .op .now) in
+    let L = memOf (a .m) (a .lx .now) (a .lz .now) (a .lp .now) in
+    let R = memOf (a .m) (a .rx .now) (a .rz .now) (a .rp .now) in
+    let O = memOf (a .m) (a .ox .now) (a .oz .now) (a .op .now) in
     let cs = a .clashes .now in
-    let e = both-parts (joined (setTests (a .n) L) (setTests (a .n) R)) (joined (otherLengths (count L) (count R) (length cs)) (outTests (a .n) (count L) O)) (k .before .before .before .before .before .both-fault .ensures .0) (k .before .third-fault .ensures .0) (k .smaller .ensures) in
+    let e = both-parts (joined (setTests (a .n) L) (setTests (a .n) R)) (joined (otherLengths (count L) (length cs)) (outTests (a .n) O)) (k .before .before .before .before .before .both-fault .ensures .0) (k .before .third-fault .ensures .0) (k .smaller .ensures) in
     let z = i .if1 .left in
     record {
       answer = passing doneOr e z;

@@ -6,7 +6,7 @@ use borrow.Author.Needs.{needs}
 use Rattle.pauli.specs.Rows.{commute}
 use Rattle.encoding.specs.declared.Answer.the-variants.{Refused}
 use Rattle.encoding.specs.Refusals.{doneOr, leftOr}
-use Rattle.encoding.specs.Set.{mem, rowsIn, count}
+use Rattle.encoding.specs.Set.{memOf, rowsIn, count}
 use Rattle.encoding.proofs.Faults.{refusing, passing}
 use Rattle.encoding.proofs.Memory.{bare-sound}
 use Rattle.cmpnt_list.specs.Calls.{laidMatrix, commuting}
@@ -17,7 +17,7 @@ returns : tie.Need-returns
 returns c =
     let s = c .before .before .before .before .before .before in
     let a = s .args in
-    let M = mem (a .x .now) (a .z .now) (a .phases .now) in
+    let M = memOf (a .m) (a .x .now) (a .z .now) (a .phases .now) in
     let o = a .out .now in
     let new = laidMatrix (count M) (commuting (a .n) M) in
     let e = c .before .matrix-fault .ensures .0 in
@@ -33,7 +33,7 @@ unfolding rowsIn commute
 returns-2 c =
     let s = c .before .before .before .before .before .before .before .before .before .before in
     let a = s .args in
-    let M = mem (a .x .now) (a .z .now) (a .phases .now) in
+    let M = memOf (a .m) (a .x .now) (a .z .now) (a .phases .now) in
     let o = a .out .now in
     let new = laidMatrix (count M) (commuting (a .n) M) in
     let e = c .before .before .before .before .before .matrix-fault .ensures .0 in

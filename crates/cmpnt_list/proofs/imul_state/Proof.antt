@@ -4,12 +4,11 @@ use mathlib.Core.Path.{refl, sym, ap, _∙_}
 use Prim.Native.Nat.{ℕ}
 use borrow.Author.Tests.{leb-false}
 use borrow.Author.Needs.{needs}
-use lib.ListN.{length}
 use Rattle.pauli.specs.Rows.{actOn, actPhaseOn}
 use Rattle.encoding.proofs.Faults.{least-none, refusing, passing, both-parts}
 use Rattle.encoding.proofs.Memory.{bare-sound}
 use Rattle.encoding.specs.Refusals.{leftOr, joined, setTests, numberTests, stateTests, tooLarge}
-use Rattle.encoding.specs.Set.{mem, rowsIn, rowsOf, count, stateOf, layState}
+use Rattle.encoding.specs.Set.{memOf, rowsIn, rowsOf, count, stateOf, layState}
 use Rattle.cmpnt_list.specs.Calls.{phaseOr}
 use Rattle.cmpnt_list.specs.declared.Phase.the-variants as phase
 use Rattle.cmpnt_list.proofs.imul_state.Statement.{statement}
@@ -19,7 +18,7 @@ returns : tie.Need-returns
 returns c =
     let s = c .before .before .before .before .before .before .before .before .before .before in
     let a = s .args in
-    let M = mem (a .x .now) (a .z .now) (a .phases .now) in
+    let M = memOf (a .m) (a .x .now) (a .z .now) (a .phases .now) in
     let e = both-parts (joined (setTests (a .n) M) (numberTests (tooLarge (count M) (a .row .0)))) (stateTests (a .n) (a .state .now)) (c .before .before .before .before .row-fault .ensures .0) (c .before .before .state-fault .ensures) (c .before .smaller .ensures) in
     let st = a .state .now in
     let r = rowsOf (a .n) M (a .row .0) in
@@ -37,14 +36,14 @@ act-on-requires c κs =
     let t = c .before .before .before .state-fault in
     let p = least-none (f .result) (t .result) (sym (c .before .before .smaller .ensures) ∙ c .before .if1 .left) in
     let k = f .ensures .1 (p .0) in
-    (bare-sound (k .ready), (leb-false (length (a .phases .now)) (a .row .0) (k .small), sym (t .ensures) ∙ p .1))
+    (bare-sound (k .ready), (leb-false (a .m) (a .row .0) (k .small), sym (t .ensures) ∙ p .1))
 
 returns-2 : tie.Need-returns-2
 unfolding rowsIn
 returns-2 c =
     let s = c .before .before .before .before .before .before .before .before .before .before .before .before .before .before in
     let a = s .args in
-    let M = mem (a .x .now) (a .z .now) (a .phases .now) in
+    let M = memOf (a .m) (a .x .now) (a .z .now) (a .phases .now) in
     let e = both-parts (joined (setTests (a .n) M) (numberTests (tooLarge (count M) (a .row .0)))) (stateTests (a .n) (a .state .now)) (c .before .before .before .before .before .before .before .before .row-fault .ensures .0) (c .before .before .before .before .before .before .state-fault .ensures) (c .before .before .before .before .before .smaller .ensures) in
     let st = a .state .now in
     let r = rowsOf (a .n) M (a .row .0) in

@@ -1,7 +1,7 @@
 -- `cmpnt_list::matrix_fault` meets its contract. Assumes nothing.
 use borrow.Author.Needs.{needs}
 use Rattle.encoding.specs.Refusals.{setTests}
-use Rattle.encoding.specs.Set.{mem, count}
+use Rattle.encoding.specs.Set.{memOf, count}
 use Rattle.encoding.proofs.Faults.{both-parts}
 use Rattle.cmpnt_list.specs.Calls.{matrixTests}
 use Rattle.cmpnt_list.proofs.Tests.{matrix-asked}
@@ -13,7 +13,7 @@ returns c =
     let p = c .before in
     let f = p .before in
     let a = f .before .before .before .before .args in
-    let M = mem (a .x .now) (a .z .now) (a .phases .now) in (
+    let M = memOf (a .m) (a .x .now) (a .z .now) (a .phases .now) in (
       both-parts (setTests (a .n) M) (matrixTests (count M) (a .size)) (f .set-fault .ensures .0) (p .square-fault .ensures) (c .smaller .ensures),
       matrix-asked (a .n) M (a .size) (f .set-fault .ensures .0) (p .square-fault .ensures) (c .smaller .ensures) (f .set-fault .ensures .1),
     )

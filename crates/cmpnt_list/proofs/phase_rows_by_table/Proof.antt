@@ -6,7 +6,7 @@ use borrow.Author.Needs.{needs}
 use lib.ListN.{take}
 use Rattle.pauli.specs.Pauli.{Pauli, phases}
 use Rattle.encoding.specs.Limits.{wordsOf}
-use Rattle.encoding.specs.Set.{row, mem}
+use Rattle.encoding.specs.Set.{row, memOf}
 use Rattle.encoding.proofs.Memory.{clean}
 use Rattle.encoding.proofs.RowWords.{phase-is}
 use Rattle.table.specs.Table.{lookups}
@@ -21,7 +21,7 @@ returns c =
     let a = s .args in
     let n = a .n in
     let w = wordsOf n in
-    let M = mem (a .x .now) (a .z .now) (a .phases .now) in
+    let M = memOf (a .m) (a .x .now) (a .z .now) (a .phases .now) in
     let A = c .before .before .before .before .before .before .row-span .ensures in
     let B = c .before .before .before .before .before .row-span2 .ensures in
     c .mul-op-op-phase-by-table .ensures

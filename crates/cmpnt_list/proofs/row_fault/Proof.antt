@@ -1,6 +1,6 @@
 -- `cmpnt_list::row_fault` meets its contract. Assumes nothing.
 use borrow.Author.Needs.{needs}
-use Rattle.encoding.specs.Set.{mem}
+use Rattle.encoding.specs.Set.{memOf}
 use Rattle.cmpnt_list.proofs.Tests.{read-fault, read-asked}
 use Rattle.cmpnt_list.proofs.row_fault.Statement.{statement}
 use Rattle.cmpnt_list.proofs.row_fault.Tie as tie
@@ -10,7 +10,7 @@ returns c =
     let p = c .before in
     let f = p .before in
     let a = f .before .before .before .before .args in
-    let M = mem (a .x .now) (a .z .now) (a .phases .now) in (
+    let M = memOf (a .m) (a .x .now) (a .z .now) (a .phases .now) in (
       read-fault (a .n) M (a .large) (f .set-fault .ensures .0) (p .pick .ensures) (c .smaller .ensures),
       read-asked (a .n) M (a .large) (f .set-fault .ensures .0) (p .pick .ensures) (c .smaller .ensures) (f .set-fault .ensures .1),
     )

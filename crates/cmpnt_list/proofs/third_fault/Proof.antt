@@ -3,7 +3,7 @@ use mathlib.Core.Path.{_∙_}
 use borrow.Author.Needs.{needs}
 use Rattle.encoding.specs.Refusals.{outTests}
 use Rattle.cmpnt_list.specs.Calls.{otherLengths}
-use Rattle.encoding.specs.Set.{mem}
+use Rattle.encoding.specs.Set.{memOf}
 use Rattle.encoding.proofs.Faults.{both-parts}
 use Rattle.cmpnt_list.proofs.Tests.{third-ready, lengths-is}
 use Rattle.cmpnt_list.proofs.third_fault.Statement.{statement}
@@ -14,9 +14,9 @@ returns c =
     let o = c .before in
     let p = o .before in
     let a = p .before .before .before .before .args in
-    let O = mem (a .ox .now) (a .oz .now) (a .op .now) in (
-      both-parts (otherLengths (a .m) (a .k) (a .q)) (outTests (a .n) (a .m) O) (p .pick .ensures ∙ lengths-is (a .m) (a .k) (a .q)) (o .out-fault .ensures) (c .smaller .ensures),
-      third-ready (a .n) (a .m) (a .k) (a .q) O (p .pick .ensures) (o .out-fault .ensures) (c .smaller .ensures),
+    let O = memOf (a .m) (a .ox .now) (a .oz .now) (a .op .now) in (
+      both-parts (otherLengths (a .m) (a .q)) (outTests (a .n) O) (p .pick .ensures ∙ lengths-is (a .m) (a .q)) (o .out-fault .ensures) (c .smaller .ensures),
+      third-ready (a .n) (a .q) O (p .pick .ensures) (o .out-fault .ensures) (c .smaller .ensures),
     )
 
 pub third-fault-spec : {M : Type 1} → statement M
