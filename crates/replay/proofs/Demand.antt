@@ -12,10 +12,11 @@ use lib.Dec.{eqb}
 use lib.ListN.{length}
 use Rattle.pauli.specs.Row.{Row, mulRow, bitRow, sameRow}
 use Rattle.encoding.specs.Limits.{wordsOf}
-use Rattle.encoding.specs.Set.{Mem, count, rowsIn, rowsOf, lay, Valid}
+use Rattle.encoding.specs.Set.{Mem, count, rowsIn, rowsOf, lay}
 use Rattle.encoding.specs.Refusals.{leftOr}
 use Rattle.encoding.proofs.Memory.{lay-back}
-use Rattle.encoding.proofs.Sets.{same-words, same-bytes}
+use Rattle.encoding.proofs.Sets.{same-words, same-phases}
+use Rattle.encoding.proofs.Exponents.{exponent-small}
 use Rattle.reduction.specs.Lists.{In, Distinct, All}
 use Rattle.reduction.specs.Rule.{Entry, mulAt}
 use Rattle.reduction.specs.Log.{pairs}
@@ -60,9 +61,9 @@ told zero {v} {r} e v′ f = (refl, let p : some v ≡ some v′ = sym (back-giv
 told (suc k) {v} {r} e v′ f = absurd (let p : none ≡ some v′ = ap back (sym e ∙ f) ∙ back-given v′ in let z : _≡_ {A = ℕ} 0 1 = cc in omega arith)
 
 -- the phases of a row set
-phase-small : {n w : ℕ} {M : Mem} → Valid n w M → (k : ℕ) → rowsIn n w M k .p < 4
+phase-small : (n w : ℕ) (M : Mem) (k : ℕ) → rowsIn n w M k .p < 4
 unfolding rowsIn
-phase-small v k = v .small k
+phase-small n w M k = exponent-small (M .es) k
 
 -- entries change their targets alone
 replay-others : {R : Type 0} (mul : R → R → R) (σ : ℕ → R) (listed extra : List ℕ) (k : ℕ) → (In k (listed ++ extra) → ⊥)
@@ -163,15 +164,12 @@ module _ {T : Task} {A B : Claim} {left left′ : Mem} (c : Checked T A Yes left
       (rowsOf (T .n) (A .rows)) (rowsOf (T .n) (B .rows)) (on-verdict c accepted refl .1) (on-verdict d accepted refl .1) k (omega (arith, a-set .of-claim .as-many)))
 
   -- (4) If moreover no product of listed starting rows, repeats allowed, is the identity with a phase exponent other than 0, they agree in every phase, of
-  -- every row: their phase bytes are the same.
-  pub bytes-unique : NoPhaseAtStart T → A .rows .es ≡ B .rows .es
-  bytes-unique free =
-      same-bytes (T .n) (wordsOf (T .n)) (a-set .of-claim .claimed-set) (b-set .of-claim .claimed-set) as-many
-      (λ k h. theorems.phases-unique (rows-laws (T .n)) (rows-tell (T .n)) (a-set .of-task .asked) (rowsOf (T .n) (T .start)) every free (λ j _. small j) (pairs (A .log)) (pairs (B .log))
+  -- every row: their phase words are the same, spare bits included.
+  pub phases-unique : NoPhaseAtStart T → A .rows .es ≡ B .rows .es
+  phases-unique free =
+      same-phases (T .n) (wordsOf (T .n)) (a-set .of-claim .claimed-set) (b-set .of-claim .claimed-set) as-many
+      (λ k h. theorems.phases-unique (rows-laws (T .n)) (rows-tell (T .n)) (a-set .of-task .asked) (rowsOf (T .n) (T .start)) every free (λ j _. phase-small (T .n) (wordsOf (T .n)) (T .start) j) (pairs (A .log)) (pairs (B .log))
       (rowsOf (T .n) (A .rows)) (rowsOf (T .n) (B .rows)) (on-verdict c accepted refl .1) (on-verdict d accepted refl .1) k (omega (arith, a-set .of-claim .as-many)))
-    where
-      small : (j : ℕ) → rowsIn (T .n) (wordsOf (T .n)) (T .start) j .p < 4
-      small j = phase-small (a-set .of-task .sound .valid) j
 
 -- ---- refusals: the number k + 1 is given exactly when its line of the table fits and none before it does
 

@@ -1,6 +1,6 @@
 -- The refusals of a check: the first line of its parts by rank, and what nothing refused leaves. 15 comes last of what `reduce_fault` gives, so that the
 -- smaller of its number and the claim's is the earlier. Assumes nothing.
-use mathlib.Core.Path.{_≡_, refl, sym, ap, ap₂, _∙_, subst}
+use mathlib.Core.Path.{_≡_, refl, sym, ap, ap₂, _∙_}
 use mathlib.Core.Bool.{Bool, true, false, cond, not}
 use mathlib.Core.List.{List, [], _∷_}
 use Prim.Native.Nat.{ℕ, zero, suc, _+_, _≤_}
@@ -11,27 +11,16 @@ use lib.Dec.{eqb, ltb}
 use lib.ListN.{length}
 use Rattle.encoding.specs.Limits.{wordsOf}
 use Rattle.encoding.specs.Words.{odd}
-use Rattle.encoding.specs.Set.{Mem, memOf, mem, count, Valid}
-use Rattle.encoding.specs.Refusals.{faultFrom, fault, joined, least, setTests, leftOr, differentRows}
-use Rattle.encoding.proofs.Faults.{joined-fault, both-parts, least-none, least-more, orElse, or-none, different-is, same-rows, kept}
+use Rattle.encoding.specs.Set.{Mem, count, Valid}
+use Rattle.encoding.specs.Refusals.{faultFrom, fault, least, leftOr}
+use Rattle.encoding.proofs.Faults.{joined-fault, least-none, least-more, orElse, or-none, kept}
 use Rattle.encoding.specs.Ranks.{TableLine, line, byRank}
 use Rattle.terms.specs.Refused.{repeated, reduceTests, columnTwice, reduceFault}
 use Rattle.encoding.proofs.Ranks.{ranked}
-use Rattle.replay.specs.Check.{Task, Claim, claimTests, checkTests, oddLog, checkFault, TaskPassed, ClaimPassed, Passed, givenOr, verdictOn, workingFor, Checked}
+use Rattle.replay.specs.Check.{Task, Claim, claimTests, checkTests, oddLog, checkFault, TaskPassed, Passed, givenOr, verdictOn, workingFor, Checked}
 use Rattle.replay.specs.Steps.{Judged}
 use Rattle.replay.specs.declared.Verdict.{Verdict}
 use Rattle.replay.specs.declared.Verdict.the-variants.{Refused}
-
--- ---- the claimed rows
-
-module _ (n m : ℕ) (C : Mem) {a b f : ℕ} (pa : a ≡ fault (setTests n C)) (pb : b ≡ cond (not (eqb (count C) m)) 3 0) (e : f ≡ least a b) where
-  pub claim-number : f ≡ fault (claimTests n m C)
-  claim-number = both-parts (setTests n C) (differentRows m (count C)) pa (pb ∙ different-is m (count C)) e
-
-  pub claim-passed : (a ≡ 0 → Valid n (wordsOf n) C) → f ≡ 0 → ClaimPassed n m C
-  claim-passed valid z =
-      let s = least-none a b (sym e ∙ z) in
-      record { claimed-set = valid (s .0); as-many = same-rows m (count C) (sym (different-is m (count C)) ∙ sym pb ∙ s .1) }
 
 -- ---- one after the other
 
@@ -51,9 +40,8 @@ fault-small k [] = omega arith
 fault-small k (true ∷ ts) = omega arith
 fault-small k (false ∷ ts) = omega (arith, fault-small (suc k) ts)
 
-claim-small : (n m : ℕ) (C : Mem) → fault (claimTests n m C) ≤ 14
-unfolding joined
-claim-small n m C = omega (arith, fault-small 0 (claimTests n m C))
+claim-small : (n : ℕ) (C : Mem) → fault (claimTests n C) ≤ 14
+claim-small n C = omega (arith, fault-small 0 (claimTests n C))
 
 -- 15 is above every number of the claim
 above : (a b : ℕ) (r : Bool) → b ≤ 14 → least (orElse a (cond r 15 0)) b ≡ orElse (least a b) (cond r 15 0)
@@ -76,15 +64,15 @@ in-turn (suc f) r o = refl
 
 -- ---- the call
 
-module _ (T : Task) (L : Claim) {a b s f : ℕ} (pa : a ≡ reduceFault (T .n) (T .start) (T .order) (T .listed) (T .extra)) (pb : b ≡ fault (claimTests (T .n) (count (T .start)) (L .rows)))
+module _ (T : Task) (L : Claim) {a b s f : ℕ} (pa : a ≡ reduceFault (T .n) (T .start) (T .order) (T .listed) (T .extra)) (pb : b ≡ fault (claimTests (T .n) (L .rows)))
     (e : s ≡ least a b) (ef : f ≡ byRank (line s (not (eqb s 0)) ∷ oddLog (length (L .log)) ∷ [])) where
   before-log : s ≡ orElse (fault (checkTests T L)) (cond (repeated (T .order)) 15 0)
   unfolding byRank
   before-log =
       let ts = reduceTests (T .n) (T .start) (T .order) (T .listed) (T .extra) in
-      let us = claimTests (T .n) (count (T .start)) (L .rows) in
+      let us = claimTests (T .n) (L .rows) in
       e ∙ ap₂ least (pa ∙ ranked 0 ts (columnTwice (T .order) ∷ [])) pb
-      ∙ above (fault ts) (fault us) (repeated (T .order)) (claim-small (T .n) (count (T .start)) (L .rows))
+      ∙ above (fault ts) (fault us) (repeated (T .order)) (claim-small (T .n) (L .rows))
       ∙ ap (λ k. orElse k (cond (repeated (T .order)) 15 0)) (joined-fault ts us)
 
   pub check-number : f ≡ checkFault T L
@@ -95,12 +83,12 @@ module _ (T : Task) (L : Claim) {a b s f : ℕ} (pa : a ≡ reduceFault (T .n) (
       ∙ in-turn (fault (checkTests T L)) (repeated (T .order)) (byRank (oddLog (length (L .log)) ∷ []))
       ∙ sym (ranked 0 (checkTests T L) (columnTwice (T .order) ∷ oddLog (length (L .log)) ∷ []))
 
-  module _ (ta : a ≡ 0 → TaskPassed T) (tb : b ≡ 0 → ClaimPassed (T .n) (count (T .start)) (L .rows)) where
+  module _ (ta : a ≡ 0 → TaskPassed T) (tb : b ≡ 0 → Valid (T .n) (wordsOf (T .n)) (L .rows)) (many : count (L .rows) ≡ count (T .start)) where
     pub check-passed : f ≡ 0 → Passed T (L .rows)
     check-passed z =
         let none = or-none s (byRank (oddLog (length (L .log)) ∷ [])) (sym (first-of s (oddLog (length (L .log)) ∷ [])) ∙ sym ef ∙ z) in
         let p = least-none a b (sym e ∙ none .0) in
-        record { of-task = ta (p .0); of-claim = tb (p .1) }
+        record { of-task = ta (p .0); of-claim = record { claimed-set = tb (p .1); as-many = many } }
 
     -- refused: nothing is changed
     pub refusing : (f ≡ 0 → ⊥) → Checked T L (Refused f) (T .start)
@@ -124,7 +112,3 @@ module _ (T : Task) (L : Claim) {a b s f : ℕ} (pa : a ≡ reduceFault (T .n) (
           rows = j .rows ∙ ap (λ k. leftOr k (T .start) (workingFor T L)) (sym n);
           passed = λ _. check-passed z;
         }
-
--- what the worker left, as the call sees it: m is the number of the bytes that are lent
-pub judged-lent : {T : Task} {L : Claim} {r : Verdict} {m : ℕ} {xs zs es : List ℕ} → length es ≡ m → Judged T L r (memOf m xs zs es) → Judged T L r (mem xs zs es)
-judged-lent {T} {L} {r} {m} {xs} {zs} {es} l = subst (λ k. Judged T L r (memOf k xs zs es)) (sym l)

@@ -1,21 +1,21 @@
 -- Demand 3, of the two calls' contracts: what `canonicalize` leaves when it is done, handed to the checker from the same start with the log cut to its
--- entry count, gets yes. And after any yes the working rows are, word for word and byte for byte, the claimed ones. Assumes nothing.
+-- entry count, gets yes. And after any yes the working rows are, word for word, phase words and all, the claimed ones. Assumes nothing.
 use mathlib.Core.Path.{_≡_, refl, sym, ap, ap₂, _∙_, subst}
 use mathlib.Core.Bool.{Bool, false, cond}
 use mathlib.Core.Option.{some}
 use mathlib.Core.List.{List, [], _∷_}
 use Prim.Native.Nat.{ℕ, zero, suc, _+_, _*_, _%_, _≤_, _<_}
 use native.Mathlib.Omega.{arith}
-use borrow.Author.Tests.{eq-eqb, ne-eqb}
+use borrow.Author.Tests.{ne-eqb}
 use lib.ListN.{length, take, length-take}
 use Rattle.pauli.specs.Row.{Row, mulRow, bitRow, sameRow}
 use Rattle.encoding.specs.Limits.{wordsOf}
 use Rattle.encoding.specs.Words.{odd}
 use Rattle.encoding.specs.Set.{Mem, count, rowsIn, rowsOf, lay, Valid}
-use Rattle.encoding.specs.Refusals.{faultFrom, fault, joined, least, setTests, leftOr, differentRows}
+use Rattle.encoding.specs.Refusals.{fault, joined, least, setTests, leftOr}
 use Rattle.encoding.proofs.Faults.{joined-fault, least-none, orElse}
 use Rattle.encoding.proofs.Memory.{Proper, mem-eq, within-limits, count-lay, read-lay, valid-lay}
-use Rattle.encoding.proofs.Sets.{same-words, same-bytes, read-proper, set-passes}
+use Rattle.encoding.proofs.Sets.{same-words, same-phases, read-proper, set-passes}
 use Rattle.reduction.specs.Rule.{Run, reduce}
 use Rattle.reduction.specs.Replay.{replay}
 use Rattle.reduction.specs.Log.{pairs, units}
@@ -64,7 +64,7 @@ yes-left {T} {L} {left} c =
     c .rows
     ∙ ap (λ f. leftOr f (T .start) (workingFor T L)) (y .0)
     ∙ ap (λ o. lay n m (workingBy (mulRow n) o σ es)) (none-bad (T .listed) (T .extra) 0 es (R .entries))
-    ∙ mem-eq as-many (u .0) (u .1) (same-bytes n w v (s .of-claim .claimed-set) as-many (λ k h. ap (λ r. r .p) (at k h) ∙ R .replayed k (omega arith) .phase))
+    ∙ mem-eq as-many (u .0) (u .1) (same-phases n w v (s .of-claim .claimed-set) as-many (λ k h. ap (λ r. r .p) (at k h) ∙ R .replayed k (omega arith) .phase))
 
 -- ---- our own finished logs
 
@@ -72,10 +72,6 @@ yes-left {T} {L} {left} c =
 pub none-both : (ts us : List Bool) → fault ts ≡ 0 → fault us ≡ 0 → fault (joined ts us) ≡ 0
 unfolding least
 none-both ts us p q = sym (joined-fault ts us) ∙ ap₂ least p q
-
-counts-pass : {m k : ℕ} → k ≡ m → fault (differentRows m k) ≡ 0
-unfolding faultFrom
-counts-pass {m} {k} e = simp (eq-eqb k m e)
 
 pub log-passes : (k units : ℕ) → units ≡ 2 * k → odd units ≡ false
 log-passes k units e = ne-eqb (units % 2) 1 (λ o. omega arith)
@@ -129,8 +125,8 @@ module _ (T : Task) {M′ : Mem} {log′ : List ℕ} {k t : ℕ} (F : Finished (
       let no = none-refused n (T .start) (T .order) (T .listed) (T .extra) (F .no-fault) in
       ranked 0 (checkTests T own) (columnTwice (T .order) ∷ oddLog (length (take (2 * k) log′)) ∷ [])
       ∙ ap₂ orElse
-      (none-both (reduceTests n (T .start) (T .order) (T .listed) (T .extra)) (claimTests n m M′) (no .0)
-      (none-both (setTests n M′) (differentRows m (count M′)) (set-passes n M′ (record { valid = v; few-qubits = l .0; few-rows = omega (arith, F .as-many) })) (counts-pass (F .as-many))))
+      (none-both (reduceTests n (T .start) (T .order) (T .listed) (T .extra)) (claimTests n M′) (no .0)
+      (set-passes n M′ (record { valid = v; few-qubits = l .0; few-rows = omega (arith, F .as-many) })))
       (ap₂ (λ r o. cond r 15 (cond o 9 0)) (no .1) (log-passes k (length (take (2 * k) log′)) whole-entries))
 
   pub own-accepted : verdictOn T (claim (take (2 * k) log′) M′) ≡ accepted

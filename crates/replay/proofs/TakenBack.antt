@@ -4,7 +4,6 @@ use mathlib.Core.Path.{_≡_, refl, sym, ap, _∙_, subst, fun-ext}
 use mathlib.Core.Bool.{cond}
 use mathlib.Core.List.{List, [], _∷_}
 use Prim.Native.Nat.{ℕ, _+_, _*_, _/_, _%_, _<_}
-use native.Mathlib.Decide.{ℕ-discrete}
 use native.Mathlib.Omega.{arith}
 use borrow.Author.Tests.{eqb-true, eqb-false, eq-eqb, ne-eqb}
 use lib.Dec.{eqb}
@@ -15,7 +14,7 @@ use Rattle.pauli.proofs.RowLaws.{row-eq}
 use Rattle.encoding.specs.Limits.{wordsOf}
 use Rattle.encoding.specs.Set.{Mem, memOf, count, exponentAt, withExponent, rowsIn, rowsOf, lay, Valid, Sound}
 use Rattle.encoding.proofs.Memory.{laid}
-use Rattle.encoding.proofs.Exponents.{laid-long, laid-with, exponent-same, exponent-other}
+use Rattle.encoding.proofs.Exponents.{laid-long, laid-with, exponent-same, exponent-other, exponent-small}
 use Rattle.reduction.specs.Lists.{All}
 use Rattle.reduction.specs.Rule.{Entry, mulAt}
 use Rattle.reduction.specs.Log.{pairs}
@@ -72,7 +71,7 @@ module _ {n : ℕ} {M : Mem} (s : Sound n M) (a b : ℕ) (ha : a < count M) (hb 
 
   small-b : rowsOf n M b .p < 4
   unfolding rowsIn
-  small-b = s .valid .small b
+  small-b = exponent-small (M .es) b
 
   new : value ≡ (mulRow n (rowsOf n M a) (rowsOf n M b) .p + 2 * (rowsOf n M b .p)) % 4
   unfolding value
@@ -118,16 +117,11 @@ module _ {n : ℕ} {M : Mem} (s : Sound n M) (a b : ℕ) (ha : a < count M) (hb 
               x-long = valid .x-long;
               z-long = valid .z-long;
               packed = valid .packed;
-              small = λ r. go r (ℕ-discrete r a);
-              exponents = laid-with (N .es) a value (count N) (valid .exponents);
+              exponents = laid-with (N .es) a value (count N) a-in (valid .exponents);
             };
         few-qubits = h .few-qubits;
         few-rows = h .few-rows;
       }
-    where
-      go : (r : ℕ) → Dec (r ≡ a) → exponentAt (withExponent (N .es) a value) r < 4
-      go r (yes t) = subst (λ k. exponentAt (withExponent (N .es) a value) k < 4) (sym t) (subst (λ k. k < 4) (sym written) low)
-      go r (no t) = subst (λ k. k < 4) (sym (exponent-other (N .es) a value r t)) (valid .small r)
 
   pub back-view : Backed n M (mulAt (mulInverse n) (rowsOf n M) a b) (mulBackIn n a b M)
   unfolding mulBackIn turned N′ N value

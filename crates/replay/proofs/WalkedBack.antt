@@ -1,5 +1,5 @@
 -- Walking back what the calls leave, read off the contracts alone: after a check that replayed the whole log, after a reduction that is done, and after one
--- that refusal 8 cut short, `undo` of the log's entries is done and leaves the starting rows, word for word and byte for byte; and a check that replays the log
+-- that refusal 8 cut short, `undo` of the log's entries is done and leaves the starting rows, word for word, phase words and all; and a check that replays the log
 -- after an `undo` that is done leaves the rows from before it. Assumes nothing.
 use mathlib.Core.Path.{_≡_, refl, sym, ap, ap₂, _∙_, subst}
 use mathlib.Core.Bool.{Bool, true, false, cond, not, _&&_, _||_}
@@ -15,13 +15,14 @@ use Rattle.pauli.specs.Row.{Row, mulRow, bitRow}
 use Rattle.pauli.proofs.Bools.{not-so}
 use Rattle.encoding.specs.Limits.{maxRows, wordsOf}
 use Rattle.encoding.specs.Words.{odd, layRows}
-use Rattle.encoding.specs.Set.{Mem, memOf, count, layExponents, rowsOf, list, layIn, lay, Sound}
+use Rattle.encoding.specs.Set.{Mem, memOf, count, rowsOf, list, layIn, lay, Sound}
 use Rattle.encoding.specs.Refusals.{faultFrom, fault, setTests, leftOr}
 use Rattle.encoding.specs.Refusals as refusals
 use Rattle.encoding.proofs.Faults.{joined-fault, least-none, orElse, or-none}
 use Rattle.encoding.proofs.Memory.{Proper, count-lay, read-lay, lay-back, valid-of, valid-lay}
 use Rattle.encoding.proofs.Sets.{sound-of, set-passes}
 use Rattle.encoding.proofs.WordLaws.{Fit}
+use Rattle.encoding.proofs.Exponents.{laid-again, laid-as, exponent-laid}
 use Rattle.reduction.specs.Lists.{All, Distinct, distinct, has}
 use Rattle.reduction.specs.Rule.{Entry, mulAt, reduce}
 use Rattle.reduction.specs.Replay.{replay}
@@ -58,12 +59,15 @@ unfolding list
 list-same zero f g h = refl
 list-same (suc m) f g h = ap₂ (λ a l. a ∷ l) (h 0 (omega arith)) (list-same m (λ k. f (suc k)) (λ k. g (suc k)) (λ k l. h (suc k) (omega arith)))
 
-lay-same : (n m : ℕ) (σ τ : ℕ → Row) → ((k : ℕ) → k < m → σ k ≡ τ k) → lay n m σ ≡ lay n m τ
-unfolding layIn layExponents
-lay-same n m σ τ h =
+lay-same : (n m : ℕ) (σ τ : ℕ → Row) → Proper n m τ → ((k : ℕ) → k < m → σ k ≡ τ k) → lay n m σ ≡ lay n m τ
+unfolding layIn
+lay-same n m σ τ P h =
+    let p : ℕ → ℕ = λ k. σ k .p in
+    let q : ℕ → ℕ = λ k. τ k .p in
+    let same : (k : ℕ) → k < m → p k ≡ q k = λ k l. ap (λ (r : Row). r .p) (h k l) in
     ap₂ (λ qs es. memOf m (layRows hasX (wordsOf n) qs) (layRows hasZ (wordsOf n) qs) es)
     (list-same m (λ k. σ k .ps) (λ k. τ k .ps) (λ k l. ap (λ (r : Row). r .ps) (h k l)))
-    (list-same m (λ k. σ k .p) (λ k. τ k .p) (λ k l. ap (λ (r : Row). r .p) (h k l)))
+    (laid-as m (laid-again m p) q (λ k l. exponent-laid m p k l (subst (λ (v : ℕ). v < 4) (sym (same k l)) (P .small k l)) ∙ same k l))
 
 undo-same : (n m : ℕ) (es : List Entry) (σ τ : ℕ → Row) → All (Apart m) es → ((k : ℕ) → k < m → σ k ≡ τ k) → (k : ℕ) → k < m → undo n σ es k ≡ undo n τ es k
 unfolding undo mulAt
@@ -134,8 +138,8 @@ module _ {n N : ℕ} {M : Mem} {order listed extra : List ℕ} (s : Sound n M) (
         u .answer ∙ ap₂ undoneOr z good,
         u .rows ∙ ap (λ k. leftOr k M′ (backFor n listed extra log M′)) z
             ∙ ap₂ (λ k o. lay n k (backBy n o (rowsOf n M′) es)) (many s P e) good
-            ∙ lay-same n m (undo n (rowsOf n M′) es) (undo n (replay (mulRow n) (rowsOf n M) es) es) (undo-same n m es (rowsOf n M′) (replay (mulRow n) (rowsOf n M) es) all (reads s P e))
-            ∙ ap (lay n m) (undo-replay es (rowsOf n M) all (proper-set s))
+            ∙ lay-same n m (undo n (rowsOf n M′) es) (rowsOf n M) (proper-set s)
+            (λ k l. undo-same n m es (rowsOf n M′) (replay (mulRow n) (rowsOf n M) es) all (reads s P e) k l ∙ ap (λ (τ : ℕ → Row). τ k) (undo-replay es (rowsOf n M) all (proper-set s)))
             ∙ lay-back n (wordsOf n) (s .valid),
       )
 
@@ -150,8 +154,8 @@ module _ {n N : ℕ} {M : Mem} {order listed extra : List ℕ} (s : Sound n M) (
       let e : M″ ≡ lay n m (undo n (rowsOf n M) es) = u .rows ∙ ap (λ k. leftOr k M (backFor n listed extra log M)) z ∙ ap (λ o. lay n m (backBy n o (rowsOf n M) es)) good in (
         u .answer ∙ ap₂ undoneOr z good,
         ap (λ k. lay n k (replay (mulRow n) (rowsOf n M″) es)) (many s P e)
-            ∙ lay-same n m (replay (mulRow n) (rowsOf n M″) es) (replay (mulRow n) (undo n (rowsOf n M) es) es) (replay-same n m es (rowsOf n M″) (undo n (rowsOf n M) es) all (reads s P e))
-            ∙ ap (lay n m) (replay-undo es (rowsOf n M) all (proper-set s))
+            ∙ lay-same n m (replay (mulRow n) (rowsOf n M″) es) (rowsOf n M) (proper-set s)
+            (λ k l. replay-same n m es (rowsOf n M″) (undo n (rowsOf n M) es) all (reads s P e) k l ∙ ap (λ (τ : ℕ → Row). τ k) (replay-undo es (rowsOf n M) all (proper-set s)))
             ∙ lay-back n (wordsOf n) (s .valid),
       )
 
@@ -224,12 +228,12 @@ undone-checked {n} {M} {M″} {order} {listed} {extra} {log} {C} {left} {u} {r} 
 -- ---- the reducer
 
 -- what no refusal tells of words that fit 64 bits
-reducible : (n : ℕ) (M : Mem) (order listed extra : List ℕ) → Fit (M .xs) → Fit (M .zs) → reduceFault n M order listed extra ≡ 0 → Sound n M × Asked (n + n) (count M) order listed extra
-reducible n M order listed extra x z e =
-    let p = least-none _ _ (joined-fault (setTests n M) (listTests n (count M) order listed extra) ∙ none-refused n M order listed extra e .0) in
-    (sound-of n M refl (valid-of n M x z) (p .0), asked-of n (count M) order listed extra (p .1))
+reducible : (n : ℕ) (M : Mem) (order listed extra : List ℕ) → Fit (M .xs) → Fit (M .zs) → Fit (M .es) → reduceFault n M order listed extra ≡ 0 → Sound n M × Asked (n + n) (count M) order listed extra
+reducible n M order listed extra x z p e =
+    let no = least-none _ _ (joined-fault (setTests n M) (listTests n (count M) order listed extra) ∙ none-refused n M order listed extra e .0) in
+    (sound-of n M refl (valid-of n M x z p) (no .0), asked-of n (count M) order listed extra (no .1))
 
-module _ (n : ℕ) (order listed extra : List ℕ) (M : Mem) (log : List ℕ) {M′ : Mem} {log′ : List ℕ} (x : Fit (M .xs)) (z : Fit (M .zs)) where
+module _ (n : ℕ) (order listed extra : List ℕ) (M : Mem) (log : List ℕ) {M′ : Mem} {log′ : List ℕ} (x : Fit (M .xs)) (z : Fit (M .zs)) (p : Fit (M .es)) where
   -- done, with c entries
   pub done-undone : (c t : ℕ) → Reduces n order listed extra M log M′ log′ (Done c t) → {M″ : Mem} {u : Undone} → Undoes n listed extra (take (2 * c) log′) M′ M″ u → (u ≡ undone.Done) × (M″ ≡ M)
   done-undone c t L v =
@@ -238,7 +242,7 @@ module _ (n : ℕ) (order listed extra : List ℕ) (M : Mem) (log : List ℕ) {M
       let two : 2 * c ≡ c + c = omega arith in
       let cut : pairs (take (2 * c) log′) ≡ es = ap (λ j. pairs (take j log′)) two ∙ F .cut-log in
       let long : length (take (2 * c) log′) ≡ 2 * c = omega (arith, length-take (2 * c) log′, length-pairs (take (2 * c) log′), ap length cut, F .entries) in
-      back-from (reducible n M order listed extra x z (F .no-fault) .0) (F .asked) (take (2 * c) log′) (log-passes c (length (take (2 * c) log′)) long)
+      back-from (reducible n M order listed extra x z p (F .no-fault) .0) (F .asked) (take (2 * c) log′) (log-passes c (length (take (2 * c) log′)) long)
       (ap (firstBad listed extra 0) cut ∙ none-bad listed extra 0 es (entries-good (bitRow n) (mulRow n) order listed extra (rowsOf n M)))
       (F .laid-out ∙ ap (lay n (count M)) (sym (log-replays (bitRow n) (mulRow n) order listed extra (rowsOf n M)) ∙ ap (replay (mulRow n) (rowsOf n M)) (sym cut))) v
 
@@ -254,18 +258,18 @@ module _ (n : ℕ) (order listed extra : List ℕ) (M : Mem) (log : List ℕ) {M
       let two : 2 * c ≡ length es + length es = omega arith in
       let cut : pairs (take (2 * c) log′) ≡ es = ap₂ (λ j l. pairs (take j l)) two (f .1) ∙ ap pairs (cut-logged es log) ∙ pairs-units es in
       let long : length (take (2 * c) log′) ≡ 2 * c = omega (arith, length-take (2 * c) log′, length-pairs (take (2 * c) log′), ap length cut, k) in
-      let p = reducible n M order listed extra x z (w .0) in
-      back-from (p .0) (p .1) (take (2 * c) log′) (log-passes c (length (take (2 * c) log′)) long)
+      let q = reducible n M order listed extra x z p (w .0) in
+      back-from (q .0) (q .1) (take (2 * c) log′) (log-passes c (length (take (2 * c) log′)) long)
       (ap (firstBad listed extra 0) cut ∙ none-bad listed extra 0 es (cut-entries-good (bitRow n) (mulRow n) order listed extra (rowsOf n M) c))
       (f .0 ∙ ap (λ es. lay n (count M) (replay (mulRow n) (rowsOf n M) es)) (sym cut)) v
 
 -- the same for `canonicalize_all`
-module _ (n : ℕ) (M : Mem) (log : List ℕ) {M′ : Mem} {log′ : List ℕ} (x : Fit (M .xs)) (z : Fit (M .zs)) where
+module _ (n : ℕ) (M : Mem) (log : List ℕ) {M′ : Mem} {log′ : List ℕ} (x : Fit (M .xs)) (z : Fit (M .zs)) (p : Fit (M .es)) where
   pub done-undone-all : (c t : ℕ) → ReducesAll n M log M′ log′ (Done c t) → {M″ : Mem} {u : Undone} → Undoes n (upTo (count M)) [] (take (2 * c) log′) M′ M″ u → (u ≡ undone.Done) × (M″ ≡ M)
-  done-undone-all c t L v = done-undone n (upTo (n + n)) (upTo (count M)) [] M log x z c t (whole-is n M log M′ log′ (Done c t) L) v
+  done-undone-all c t L v = done-undone n (upTo (n + n)) (upTo (count M)) [] M log x z p c t (whole-is n M log M′ log′ (Done c t) L) v
 
   pub full-undone-all : ReducesAll n M log M′ log′ (Full (capacity log)) → {M″ : Mem} {u : Undone} → Undoes n (upTo (count M)) [] (take (2 * capacity log) log′) M′ M″ u → (u ≡ undone.Done) × (M″ ≡ M)
-  full-undone-all L v = full-undone n (upTo (n + n)) (upTo (count M)) [] M log x z (whole-is n M log M′ log′ (Full (capacity log)) L) v
+  full-undone-all L v = full-undone n (upTo (n + n)) (upTo (count M)) [] M log x z p (whole-is n M log M′ log′ (Full (capacity log)) L) v
 
 -- ---- the contract leaves no choice
 

@@ -6,7 +6,7 @@ use Prim.Native.Nat.{ℕ, zero, suc, _/_, _≤_, _<_}
 use lib.Dec.{eqb}
 use lib.ListN.{length}
 use Rattle.encoding.specs.Limits.{wordsOf}
-use Rattle.encoding.specs.Set.{Mem, memOf, mem, count, rowsOf, lay}
+use Rattle.encoding.specs.Set.{Mem, count, rowsOf, lay}
 use Rattle.encoding.specs.Refusals.{fault, leftOr}
 use Rattle.encoding.proofs.Faults.{orElse, or-none, kept}
 use Rattle.encoding.proofs.Memory.{lay-back}
@@ -52,10 +52,6 @@ module _ (n : ℕ) (listed extra log : List ℕ) {M : Mem} (s : Reducible n [] l
       }
 
 -- ---- the call
-
--- as it is lent: phases have kept their length
-pub walked-lent : {n : ℕ} {listed extra log : List ℕ} {M : Mem} {m : ℕ} {xs zs es : List ℕ} {r : Undone} → length es ≡ m → Walked n listed extra log M (memOf m xs zs es) r → Walked n listed extra log M (mem xs zs es) r
-walked-lent {xs = xs} {zs = zs} {es = es} e w = record { answer = w .answer; rows = ap (λ (k : ℕ). memOf k xs zs es) e ∙ w .rows }
 
 module _ (n : ℕ) (listed extra log : List ℕ) (M : Mem) {f g : ℕ} (pf : f ≡ reduceFault n M [] listed extra) (pg : g ≡ byRank (line f (not (eqb f 0)) ∷ oddLog (length log) ∷ [])) where
   -- an order of no columns never draws 15

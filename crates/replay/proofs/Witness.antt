@@ -8,7 +8,7 @@ use native.Mathlib.Omega.{arith}
 use Rattle.pauli.specs.declared.PauliMatrix.the-variants.{I, Z}
 use Rattle.pauli.specs.Row.{Row, padMul, mulRow, bitOf, sameQubits}
 use Rattle.encoding.specs.Words.{word, unpack, join, pack, layRows}
-use Rattle.encoding.specs.Set.{Mem, mem, exponentAt, layExponents, rowsIn, rowsOf, list, layIn}
+use Rattle.encoding.specs.Set.{Mem, memOf, wordIn, exponentAt, layExponents, rowsIn, rowsOf, list, layIn}
 use Rattle.encoding.specs.Refusals.{joined, some, someBelow, badBits, badPhases}
 use Rattle.reduction.specs.Lists.{In, All, has, distinct, every}
 use Rattle.reduction.specs.Replay.{replay, productOf}
@@ -22,14 +22,14 @@ use Rattle.replay.specs.declared.Verdict.the-variants.{Yes}
 use Rattle.replay.proofs.Examples.{Answered}
 
 abbrev start : Mem
-start = mem (0 ∷ []) (1 ∷ []) (0 ∷ [])
+start = memOf 1 (0 ∷ []) (1 ∷ []) (0 ∷ [])
 
 abbrev pub one-row : Task
 one-row = task 1 start (0 ∷ 1 ∷ []) (0 ∷ []) []
 
 -- the checker says yes to it, and leaves it as it was
 pub accepted : Answered (record { given = one-row; claimed = claim [] start; says = Yes; left = start })
-unfolding padMul mulRow bitOf sameQubits word unpack join pack layRows exponentAt layExponents rowsIn list layIn byRank numbered joined some someBelow badBits badPhases has distinct every replay pairs zeroIn onlyIn reducedFrom reduced firstBad firstDiff verdictBy verdict working workingBy
+unfolding padMul mulRow bitOf sameQubits word unpack join pack layRows wordIn exponentAt layExponents rowsIn list layIn byRank numbered joined some someBelow badBits badPhases has distinct every replay pairs zeroIn onlyIn reducedFrom reduced firstBad firstDiff verdictBy verdict working workingBy
 accepted = (refl, refl)
 
 pub every-column : EveryColumn one-row

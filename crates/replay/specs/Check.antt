@@ -9,7 +9,7 @@ use Rattle.pauli.specs.Row.{mulRow, bitRow, sameRow}
 use Rattle.encoding.specs.Limits.{wordsOf}
 use Rattle.encoding.specs.Words.{odd}
 use Rattle.encoding.specs.Set.{Mem, count, rowsOf, lay, Valid}
-use Rattle.encoding.specs.Refusals.{joined, setTests, differentRows, leftOr}
+use Rattle.encoding.specs.Refusals.{joined, setTests, leftOr}
 use Rattle.reduction.specs.Log.{pairs}
 use Rattle.reduction.specs.Checker.{verdict, working, badEntry, differs, notReduced, accepted}
 use Rattle.reduction.specs.Checker as checker
@@ -39,13 +39,13 @@ claim log rows = record { log = log; rows = rows }
 
 -- ---- refusals
 
--- 1 to 5 of the claimed rows, "a set of the same n and m" (RULES 7.8)
-abbrev pub claimTests : ℕ → ℕ → Mem → List Bool
-claimTests n m claimed = joined (setTests n claimed) (differentRows m (count claimed))
+-- 1 to 5 of the claimed rows, "a set of the same n and m" (RULES 7.8): they are lent with the m of the call, so that another m is a length, 3
+abbrev pub claimTests : ℕ → Mem → List Bool
+claimTests n claimed = setTests n claimed
 
 -- and 1 to 7 of what was to be reduced: the starting rows, the order, the lists
 abbrev pub checkTests : Task → Claim → List Bool
-checkTests T L = joined (reduceTests (T .n) (T .start) (T .order) (T .listed) (T .extra)) (claimTests (T .n) (count (T .start)) (L .rows))
+checkTests T L = joined (reduceTests (T .n) (T .start) (T .order) (T .listed) (T .extra)) (claimTests (T .n) (L .rows))
 
 -- 9: a log of odd length
 abbrev pub oddLog : ℕ → TableLine

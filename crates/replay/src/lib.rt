@@ -3,10 +3,9 @@ ghost use mathlib.Core.Path.{_≡_};
 ghost use mathlib.Core.Bool.{not};
 ghost use mathlib.Core.List.{[], _∷_};
 ghost use lib.Dec.{eqb};
-ghost use Rattle.encoding.specs.Lent.{lent, before, after, lentOf, beforeOf, afterOf};
-ghost use Rattle.encoding.specs.Refusals.{fault};
+ghost use Rattle.encoding.specs.Lent.{lent, before, after};
 ghost use Rattle.encoding.specs.Ranks.{byRank, line};
-ghost use Rattle.replay.specs.Check.{task, claim, claimTests, oddLog, ClaimPassed, Passed, given, verdictOn, Checked};
+ghost use Rattle.replay.specs.Check.{task, claim, oddLog, Passed, given, verdictOn, Checked};
 ghost use Rattle.replay.specs.Steps.{Judged};
 use encoding::pick;
 use encoding::set_fault;
@@ -37,16 +36,6 @@ pub enum Undone {
     Refused(u8),
 }
 
-// The first number of the table that fits rows claimed of m rows of n qubits, or 0.
-fn claim_fault(n: usize, m: usize, cx: &[u64], cz: &[u64], cphases: &[u8]) -> u8
-    ensures { λ r. ⌜ r ≡ fault (claimTests n m (before cx cz cphases)) ⌝ }
-    ensures passed { λ r. ⌜ (r ≡ 0 → ClaimPassed n m (before cx cz cphases)) ⌝ }
-{
-    let f = set_fault(n, cx, cz, cphases);
-    let other = cphases.len() != m;
-    smaller(f, pick(other, 3, 0))
-}
-
 // What was found before the log is looked at, or else 9 for a log of odd length, or 0.
 pub(crate) fn log_fault(earlier: u8, units: usize) -> u8
     ensures { λ r. ⌜ r ≡ byRank (line earlier (not (eqb earlier 0)) ∷ oddLog units ∷ []) ⌝ }
@@ -62,18 +51,18 @@ fn compare(
     m: usize,
     x: &[u64],
     z: &[u64],
-    phases: &[u8],
+    phases: &[u64],
     order: &[u16],
     listed: &[u16],
     extra: &[u16],
     cx: &[u64],
     cz: &[u64],
-    cphases: &[u8],
+    cphases: &[u64],
 ) -> Verdict
-    requires { ⌜ Passed (task n (lentOf m x z phases) (now order) (now listed) (now extra))
-        (lent cx cz cphases) ⌝ }
-    ensures { λ r. ⌜ r ≡ given (verdictOn (task n (beforeOf m x z phases) (now (order .entry)) (now (listed .entry)) (now (extra .entry)))
-        (claim [] (before cx cz cphases))) ⌝ }
+    requires { ⌜ Passed (task n (lent m x z phases) (now order) (now listed) (now extra))
+        (lent m cx cz cphases) ⌝ }
+    ensures { λ r. ⌜ r ≡ given (verdictOn (task n (before m x z phases) (now (order .entry)) (now (listed .entry)) (now (extra .entry)))
+        (claim [] (before m cx cz cphases))) ⌝ }
 {
     let d = rows::first_diff(n, m, x, z, phases, cx, cz, cphases);
     if d < m {
@@ -91,19 +80,19 @@ fn judge(
     m: usize,
     x: &mut [u64],
     z: &mut [u64],
-    phases: &mut [u8],
+    phases: &mut [u64],
     order: &[u16],
     listed: &[u16],
     extra: &[u16],
     log: &[u16],
     cx: &[u64],
     cz: &[u64],
-    cphases: &[u8],
+    cphases: &[u64],
 ) -> Verdict
-    requires { ⌜ Passed (task n (lentOf m x z phases) (now order) (now listed) (now extra))
-        (lent cx cz cphases) ⌝ }
-    ensures { λ r. ⌜ Judged (task n (beforeOf m x z phases) (now (order .entry)) (now (listed .entry)) (now (extra .entry)))
-        (claim (now (log .entry)) (before cx cz cphases)) r (afterOf m x z phases) ⌝ }
+    requires { ⌜ Passed (task n (lent m x z phases) (now order) (now listed) (now extra))
+        (lent m cx cz cphases) ⌝ }
+    ensures { λ r. ⌜ Judged (task n (before m x z phases) (now (order .entry)) (now (listed .entry)) (now (extra .entry)))
+        (claim (now (log .entry)) (before m cx cz cphases)) r (after m x z phases) ⌝ }
 {
     let h = log.len() / 2;
     let b = entries::first_bad(log, listed, extra);
@@ -117,29 +106,30 @@ fn judge(
 // The replay checker. x, z and phases come in as the starting rows and end as the replayed ones; at a refusal or a bad entry they are unchanged.
 pub fn check(
     n: usize,
+    m: usize,
     x: &mut [u64],
     z: &mut [u64],
-    phases: &mut [u8],
+    phases: &mut [u64],
     order: &[u16],
     listed: &[u16],
     extra: &[u16],
     log: &[u16],
     cx: &[u64],
     cz: &[u64],
-    cphases: &[u8],
+    cphases: &[u64],
 ) -> Verdict
-    ensures { λ r. ⌜ Checked (task n (before x z phases) (now (order .entry)) (now (listed .entry)) (now (extra .entry)))
-        (claim (now (log .entry)) (before cx cz cphases)) r (after x z phases) ⌝ }
+    ensures { λ r. ⌜ Checked (task n (before m x z phases) (now (order .entry)) (now (listed .entry)) (now (extra .entry)))
+        (claim (now (log .entry)) (before m cx cz cphases)) r (after m x z phases) ⌝ }
 {
-    let a = reduce_fault(n, x, z, phases, order, listed, extra);
-    let b = claim_fault(n, phases.len(), cx, cz, cphases);
+    let a = reduce_fault(n, m, x, z, phases, order, listed, extra);
+    let b = set_fault(n, m, cx, cz, cphases);
     let f = log_fault(smaller(a, b), log.len());
     if f != 0 {
         return Verdict::Refused(f);
     }
     judge(
         n,
-        phases.len(),
+        m,
         x,
         z,
         phases,

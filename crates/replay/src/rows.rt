@@ -6,7 +6,7 @@ ghost use lib.ListN.{length, take};
 ghost use Rattle.encoding.specs.Limits.{wordsOf};
 ghost use Rattle.pauli.specs.Row.{sameRow};
 ghost use Rattle.encoding.specs.Set.{row, rowsOf, Valid};
-ghost use Rattle.encoding.specs.Lent.{lent, before, lentOf, beforeOf, afterOf};
+ghost use Rattle.encoding.specs.Lent.{lent, before, after};
 ghost use Rattle.reduction.specs.Log.{pairs};
 ghost use Rattle.reduction.specs.Checker.{firstDiff};
 ghost use Rattle.replay.specs.Steps.{redone, placeOf};
@@ -19,13 +19,13 @@ pub(crate) fn redo(
     m: usize,
     x: &mut [u64],
     z: &mut [u64],
-    phases: &mut [u8],
+    phases: &mut [u64],
     log: &[u16],
     k: usize,
 )
     requires { ⌜ k ≤ length (now log) / 2 ⌝ }
-    ensures { λ _. ⌜ afterOf m x z phases
-        ≡ redone n (take k (pairs (now (log .entry)))) (beforeOf m x z phases) ⌝ }
+    ensures { λ _. ⌜ after m x z phases
+        ≡ redone n (take k (pairs (now (log .entry)))) (before m x z phases) ⌝ }
 {
     let mut i = 0;
     while i < k {
@@ -61,17 +61,17 @@ fn same_row(
     m: usize,
     x: &[u64],
     z: &[u64],
-    phases: &[u8],
+    phases: &[u64],
     cx: &[u64],
     cz: &[u64],
-    cphases: &[u8],
+    cphases: &[u64],
     k: usize,
 ) -> bool
-    requires { ⌜ Valid n (wordsOf n) (lentOf m x z phases) ⌝ }
-    requires { ⌜ Valid n (wordsOf n) (lent cx cz cphases) ⌝ }
-    requires { ⌜ (m ≡ length (now cphases)) × (k < m) ⌝ }
-    ensures { λ r. ⌜ r ≡ sameRow n (rowsOf n (beforeOf m x z phases) k)
-        (rowsOf n (before cx cz cphases) k) ⌝ }
+    requires { ⌜ Valid n (wordsOf n) (lent m x z phases) ⌝ }
+    requires { ⌜ Valid n (wordsOf n) (lent m cx cz cphases) ⌝ }
+    requires { ⌜ k < m ⌝ }
+    ensures { λ r. ⌜ r ≡ sameRow n (rowsOf n (before m x z phases) k)
+        (rowsOf n (before m cx cz cphases) k) ⌝ }
 {
     let w = encoding::words(n);
     if !same_words(w, x, cx, k) {
@@ -91,16 +91,15 @@ pub(crate) fn first_diff(
     m: usize,
     x: &[u64],
     z: &[u64],
-    phases: &[u8],
+    phases: &[u64],
     cx: &[u64],
     cz: &[u64],
-    cphases: &[u8],
+    cphases: &[u64],
 ) -> usize
-    requires { ⌜ Valid n (wordsOf n) (lentOf m x z phases) ⌝ }
-    requires { ⌜ Valid n (wordsOf n) (lent cx cz cphases) ⌝ }
-    requires { ⌜ m ≡ length (now cphases) ⌝ }
+    requires { ⌜ Valid n (wordsOf n) (lent m x z phases) ⌝ }
+    requires { ⌜ Valid n (wordsOf n) (lent m cx cz cphases) ⌝ }
     ensures { λ r. ⌜ placeOf m r ≡ firstDiff (sameRow n)
-        (rowsOf n (beforeOf m x z phases)) (rowsOf n (before cx cz cphases)) 0 m ⌝ }
+        (rowsOf n (before m x z phases)) (rowsOf n (before m cx cz cphases)) 0 m ⌝ }
 {
     let mut i = 0;
     while i < m {

@@ -2,7 +2,7 @@
 ghost use mathlib.Core.Path.{_≡_};
 ghost use mathlib.Core.List.{[]};
 ghost use Prim.Native.Nat.{_+_, _<_};
-ghost use Rattle.encoding.specs.Lent.{before, after, lentOf, beforeOf, afterOf};
+ghost use Rattle.encoding.specs.Lent.{lent, before, after};
 ghost use Rattle.reduction.specs.Log.{pairs};
 ghost use Rattle.terms.specs.Refused.{Reducible};
 ghost use Rattle.replay.specs.Undo.{Undoes};
@@ -16,7 +16,7 @@ use terms::reduce_fault;
 use terms::rows::imul_unchecked;
 
 // The exponent of row a gets twice that of row b: what lies between the product by row b and that by its inverse.
-fn turn(phases: &mut [u8], a: RowNumber, b: RowNumber)
+fn turn(phases: &mut [u64], a: RowNumber, b: RowNumber)
     ensures { λ _. ⌜ now (phases .exit) ≡ turned (a .0) (b .0) (now (phases .entry)) ⌝ }
 {
     let l = encoding::get_exponent(phases, a);
@@ -30,12 +30,12 @@ fn imul_inverse(
     m: usize,
     x: &mut [u64],
     z: &mut [u64],
-    phases: &mut [u8],
+    phases: &mut [u64],
     a: RowNumber,
     b: RowNumber,
 )
-    ensures { λ _. ⌜ afterOf m x z phases
-        ≡ mulBackIn n (a .0) (b .0) (beforeOf m x z phases) ⌝ }
+    ensures { λ _. ⌜ after m x z phases
+        ≡ mulBackIn n (a .0) (b .0) (before m x z phases) ⌝ }
 {
     imul_unchecked(n, m, x, z, phases, a, b);
     turn(phases, a, b);
@@ -50,9 +50,9 @@ fn next_back(h: usize, i: usize) -> usize
 }
 
 // All entries are taken back, the last one first.
-fn take_back(n: usize, m: usize, x: &mut [u64], z: &mut [u64], phases: &mut [u8], log: &[u16])
-    ensures { λ _. ⌜ afterOf m x z phases
-        ≡ takenBack n (pairs (now (log .entry))) (beforeOf m x z phases) ⌝ }
+fn take_back(n: usize, m: usize, x: &mut [u64], z: &mut [u64], phases: &mut [u64], log: &[u16])
+    ensures { λ _. ⌜ after m x z phases
+        ≡ takenBack n (pairs (now (log .entry))) (before m x z phases) ⌝ }
 {
     let h = log.len() / 2;
     let mut i = 0;
@@ -72,14 +72,14 @@ fn walk_back(
     m: usize,
     x: &mut [u64],
     z: &mut [u64],
-    phases: &mut [u8],
+    phases: &mut [u64],
     listed: &[u16],
     extra: &[u16],
     log: &[u16],
 ) -> Undone
-    requires { ⌜ Reducible n [] (now listed) (now extra) (lentOf m x z phases) ⌝ }
+    requires { ⌜ Reducible n [] (now listed) (now extra) (lent m x z phases) ⌝ }
     ensures { λ r. ⌜ Walked n (now (listed .entry)) (now (extra .entry)) (now (log .entry))
-        (beforeOf m x z phases) (afterOf m x z phases) r ⌝ }
+        (before m x z phases) (after m x z phases) r ⌝ }
 {
     let b = first_bad(log, listed, extra);
     if b < log.len() / 2 {
@@ -92,20 +92,21 @@ fn walk_back(
 // Rows that a log led to become those that it started from; at a refusal or a bad entry they are unchanged.
 pub fn undo(
     n: usize,
+    m: usize,
     x: &mut [u64],
     z: &mut [u64],
-    phases: &mut [u8],
+    phases: &mut [u64],
     listed: &[u16],
     extra: &[u16],
     log: &[u16],
 ) -> Undone
     ensures { λ r. ⌜ Undoes n (now (listed .entry)) (now (extra .entry)) (now (log .entry))
-        (before x z phases) (after x z phases) r ⌝ }
+        (before m x z phases) (after m x z phases) r ⌝ }
 {
-    let f = reduce_fault(n, x, z, phases, &log[0..0], listed, extra);
+    let f = reduce_fault(n, m, x, z, phases, &log[0..0], listed, extra);
     let g = log_fault(f, log.len());
     if g != 0 {
         return Undone::Refused(g);
     }
-    walk_back(n, phases.len(), x, z, phases, listed, extra, log)
+    walk_back(n, m, x, z, phases, listed, extra, log)
 }

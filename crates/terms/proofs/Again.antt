@@ -38,9 +38,9 @@ module _ (n a b : ℕ) {M M′ : Mem} {d : ℕ} (c : Multiplies n a b M M′ (cl
       let l = within-limits n M (both .0) in
       ap (λ (N : Mem). fault (setTests n N)) laid ∙ lay-passes n (count M) (mulAt (mulRow n) (rowsOf n M) a b) (l .0) (l .1) (proper-mul a b (both .1) (both .2) (read-proper n M (both .0)))
 
-  module _ (fx : Fit (M .xs)) (fz : Fit (M .zs)) where
+  module _ (fx : Fit (M .xs)) (fz : Fit (M .zs)) (fe : Fit (M .es)) where
     valid : Valid n (wordsOf n) M
-    valid = valid-of n M fx fz (both .0)
+    valid = valid-of n M fx fz fe (both .0)
 
     product : mulAt (mulRow n) (rowsOf n M) a b a ≡ mulRow n (rowsOf n M a) (rowsOf n M b)
     unfolding mulAt

@@ -12,7 +12,7 @@ use lib.Seq.{length-take-le, ext-getD, getD-take, getD-set-same, getD-set-other}
 use borrow.Author.Tests.{leb-false}
 use Rattle.pauli.specs.Row.{Row, mulRow, bitRow}
 use Rattle.encoding.specs.Limits.{maxQubits, maxRows, wordsOf}
-use Rattle.encoding.specs.Set.{Mem, memOf, mem, count, rowsOf, lay, Valid, Sound}
+use Rattle.encoding.specs.Set.{Mem, count, rowsOf, lay, Valid, Sound}
 use Rattle.encoding.specs.Refusals.{faultFrom, fault, joined, least, tooLarge, setTests, numberTests, leftOr, rowsTests}
 use Rattle.encoding.proofs.Scan.{none-of}
 use Rattle.encoding.proofs.Faults.{both-parts, least-none, not-large, number-is, refusing, orElse, or-first}
@@ -116,14 +116,6 @@ module _ (n a b : ℕ) (M : Mem) where
         answer = ap clash.Number (q .1 ∙ clashes-view (h .sound) a b (h .a-in) (h .b-in)) ∙ ap (λ k. clashesOr k (clashesOf n (rowsOf n M a) (rowsOf n M b))) (sym z ∙ e);
         rows = q .0 ∙ mul-view (h .sound) a b (h .a-in) (h .b-in) .laid-out ∙ ap (λ k. leftOr k M (lay n (count M) (mulAt (mulRow n) (rowsOf n M) a b))) (sym z ∙ e);
       }
-
--- what a worker left, as the call sees it: m is the number of the bytes that are lent
-pub lent-is : {m : ℕ} {xs zs es : List ℕ} {N : Mem} → length es ≡ m → memOf m xs zs es ≡ N → mem xs zs es ≡ N
-lent-is {m} {xs} {zs} {es} l e = ap (λ k. memOf k xs zs es) l ∙ e
-
-pub leaves-lent : {n f m : ℕ} {out : Reduced Row} {M : Mem} {log log′ xs zs es : List ℕ} {r : Canonicalized} → length es ≡ m
-    → Leaves n f out M log (memOf m xs zs es) log′ r → Leaves n f out M log (mem xs zs es) log′ r
-leaves-lent {n} {f} {m} {out} {M} {log} {log′} {xs} {zs} {es} {r} l = subst (λ k. Leaves n f out M log (memOf k xs zs es) log′ r) (sym l)
 
 -- ---- reduction
 

@@ -18,6 +18,7 @@ use Rattle.encoding.specs.Set.{Mem, count, rowsIn, rowsOf, lay, Valid, Sound}
 use Rattle.encoding.specs.Refusals.{fault, setTests, leftOr}
 use Rattle.encoding.proofs.Faults.{joined-fault, least-none, or-none, not-large, First, refused-iff}
 use Rattle.encoding.proofs.Memory.{Proper, row-count, count-lay, read-lay, valid-lay}
+use Rattle.encoding.proofs.Exponents.{exponent-small}
 use Rattle.reduction.specs.Lists.{Distinct, All, different}
 use Rattle.reduction.specs.Rule.{Entry, Run, mulAt, reduce}
 use Rattle.reduction.specs.Replay.{replay}
@@ -58,7 +59,7 @@ proper-replay {n} (e ∷ es) σ h P = proper-replay es (mulAt (mulRow n) σ (e .
 
 pub proper-set : {n : ℕ} {M : Mem} → Sound n M → Proper n (count M) (rowsOf n M)
 unfolding rowsIn
-proper-set {n} {M} s = record { long = λ r h. row-count n (wordsOf n) (s .valid) r h; small = λ r h. s .valid .small r }
+proper-set {n} {M} s = record { long = λ r h. row-count n (wordsOf n) (s .valid) r h; small = λ r h. exponent-small (M .es) r }
 
 -- ---- a finished call
 

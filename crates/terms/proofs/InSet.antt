@@ -16,7 +16,7 @@ use lib.ListN.{length}
 use Rattle.pauli.specs.Pauli.{Pauli, hasX, hasZ, mul, phases, clashes}
 use Rattle.encoding.specs.Limits.{maxQubits, maxRows, wordsOf}
 use Rattle.encoding.specs.Words.{unpack, pack}
-use Rattle.encoding.specs.Set.{part, row, Mem, memOf, mem, count, phaseUnits, exponentAt, withExponent, Sound}
+use Rattle.encoding.specs.Set.{part, row, Mem, memOf, count, phaseUnits, exponentAt, withExponent, Sound}
 use Rattle.encoding.specs.Refusals.{faultFrom, fault, outTests}
 use Rattle.encoding.proofs.Sets.{shape-of}
 use Rattle.encoding.proofs.Parts.{row-end, row-long}
@@ -51,14 +51,14 @@ module _ {w a b : ℕ} {M : Mem} (h : InRows w a b M) where
         apart = rows-apart;
       })
 
-  -- what the leaf and the byte written leave
+  -- what the leaf and the exponent written leave
   pub rows-multiplied : {xs′ zs′ : List ℕ} {e : Factor} {p : List ℕ} → ProductIn w (a * w) (b * w) (M .xs) (M .zs) xs′ zs′ e → p ≡ withExponent (M .es) a ((exponentAt (M .es) a + exponentAt (M .es) b + e .phase .0) % 4)
       → (m : ℕ) → m ≡ count M → RowsMultiplied w a b M (memOf m xs′ zs′ p) (e .clashes)
   rows-multiplied {xs′} {zs′} {e} q f m l = record { factor = e; words = q .done rows-inside; many = l; exponents = f; number = refl }
 
-pub in-rows : (n : ℕ) (M : Mem) (w a b : ℕ) → w ≡ wordsOf n → fault (outTests n (count M) M) ≡ 0 → a < count M → b < count M → InRows w a b M
+pub in-rows : (n : ℕ) (M : Mem) (w a b : ℕ) → w ≡ wordsOf n → fault (outTests n M) ≡ 0 → a < count M → b < count M → InRows w a b M
 in-rows n M w a b hw e ha hb =
-    let s = shape-of n (count M) M e in
+    let s = shape-of n M e in
     record {
       few = s .few-rows;
       narrow = omega (arith, s .few-qubits);
@@ -79,18 +79,18 @@ module _ (n a b : ℕ) (M : Mem) where
       let B = unpack (row w b (M .xs)) (row w b (M .zs)) in
       (sym (ap (λ t. cond t (memOf (count M) (putRow w a (pack hasX w (mul A B)) (M .xs)) (putRow w a (pack hasZ w (mul A B)) (M .zs)) (withExponent (M .es) a ((exponentAt (M .es) a + exponentAt (M .es) b + phases A B) % 4))) M) e), sym (ap (λ t. cond t (clashes A B % 65536) 0) e))
 
-  pub no-shape : (fault (outTests n (count M) M) ≡ 0 → ⊥) → (M ≡ mulIn n a b M) × (0 ≡ clashesIn n a b M)
+  pub no-shape : (fault (outTests n M) ≡ 0 → ⊥) → (M ≡ mulIn n a b M) × (0 ≡ clashesIn n a b M)
   no-shape ne = stays (ap (λ t. t && (ltb a (count M) && ltb b (count M))) (ne-eqb _ 0 ne))
 
-  pub no-a : fault (outTests n (count M) M) ≡ 0 → count M ≤ a → (M ≡ mulIn n a b M) × (0 ≡ clashesIn n a b M)
+  pub no-a : fault (outTests n M) ≡ 0 → count M ≤ a → (M ≡ mulIn n a b M) × (0 ≡ clashesIn n a b M)
   no-a e h = stays (ap₂ (λ s t. s && (t && ltb b (count M))) (eq-eqb _ 0 e) (le-ltb a (count M) h))
 
-  pub no-b : fault (outTests n (count M) M) ≡ 0 → a < count M → count M ≤ b → (M ≡ mulIn n a b M) × (0 ≡ clashesIn n a b M)
+  pub no-b : fault (outTests n M) ≡ 0 → a < count M → count M ≤ b → (M ≡ mulIn n a b M) × (0 ≡ clashesIn n a b M)
   no-b e g h = stays (ap₂ (λ s t. s && t) (eq-eqb _ 0 e) (ap₂ (λ s t. s && t) (lt-ltb a (count M) g) (le-ltb b (count M) h)))
 
 -- ---- and the product where both are
 
-module _ (n a b : ℕ) (M : Mem) (e : fault (outTests n (count M) M) ≡ 0) (ha : a < count M) (hb : b < count M) where
+module _ (n a b : ℕ) (M : Mem) (e : fault (outTests n M) ≡ 0) (ha : a < count M) (hb : b < count M) where
   both : bothIn n M a b ≡ true
   both = ap₂ (λ s t. s && t) (eq-eqb _ 0 e) (ap₂ (λ s t. s && t) (lt-ltb a (count M) ha) (lt-ltb b (count M) hb))
 
@@ -108,7 +108,7 @@ module _ (n a b : ℕ) (M : Mem) (e : fault (outTests n (count M) M) ≡ 0) (ha 
       let B = unpack (row v b (M .xs)) (row v b (M .zs)) in
       let q′ : RowsMultiplied v a b M M′ c = subst (λ k. RowsMultiplied k a b M M′ c) hw q in
       let P = q′ .words .here in
-      let l : length (row v a (M .xs)) ≡ v = row-long (count M) v a (M .xs) ha (shape-of n (count M) M e .x-long) in
+      let l : length (row v a (M .xs)) ≡ v = row-long (count M) v a (M .xs) ha (shape-of n M e .x-long) in
       let product-now : M′ ≡ memOf (count M) (putRow v a (pack hasX v (mul A B)) (M .xs)) (putRow v a (pack hasZ v (mul A B)) (M .zs)) (withExponent (M .es) a ((exponentAt (M .es) a + exponentAt (M .es) b + phases A B) % 4))
       = mem-eq
       (q′ .many)
@@ -127,7 +127,7 @@ module _ (n a b : ℕ) (M : Mem) (e : fault (outTests n (count M) M) ≡ 0) (ha 
       let s = a * w in
       let A = unpack (row w a (M .xs)) (row w a (M .zs)) in
       let B = unpack (row w b (M .xs)) (row w b (M .zs)) in
-      let sh = shape-of n (count M) M e in
+      let sh = shape-of n M e in
       let end = row-end a w ha in
       let l : length (row w a (M .xs)) ≡ w = row-long (count M) w a (M .xs) ha (sh .x-long) in
       let cancel : s + w - s ≡ w = add-sub-cancel-left s w in
@@ -153,16 +153,9 @@ module _ (n a b : ℕ) (M : Mem) (e : fault (outTests n (count M) M) ≡ 0) (ha 
         number = refl;
       })
 
--- the same where m is the number of the bytes that are lent
-pub shape-to : (n m : ℕ) (xs zs es : List ℕ) → fault (outTests n m (mem xs zs es)) ≡ 0 → fault (outTests n m (memOf m xs zs es)) ≡ 0
-shape-to n m xs zs es e = subst (λ k. fault (outTests n m (memOf k xs zs es)) ≡ 0) (shape-of n m (mem xs zs es) e .rows) e
-
-pub shape-from : (n m : ℕ) (xs zs es : List ℕ) → fault (outTests n m (memOf m xs zs es)) ≡ 0 → fault (outTests n m (mem xs zs es)) ≡ 0
-shape-from n m xs zs es e = subst (λ k. fault (outTests n m (memOf k xs zs es)) ≡ 0) (sym (shape-of n m (memOf m xs zs es) e .e-long)) e
-
 -- a row set within the limits has the shape
-pub shape-is : {n : ℕ} {M : Mem} → Sound n M → fault (outTests n (count M) M) ≡ 0
+pub shape-is : {n : ℕ} {M : Mem} → Sound n M → fault (outTests n M) ≡ 0
 unfolding faultFrom
 shape-is {n} {M} s =
     let w = wordsOf n in
-    simp (le-ltb maxQubits n (s .few-qubits), le-ltb maxRows (count M) (s .few-rows), eq-eqb (count M) (count M) refl, eq-eqb (length (M .xs)) (count M * w) (s .valid .x-long), eq-eqb (length (M .zs)) (count M * w) (s .valid .z-long), eq-eqb (length (M .es)) (phaseUnits (count M)) (laid-long (count M) (s .valid .exponents)))
+    simp (le-ltb maxQubits n (s .few-qubits), le-ltb maxRows (count M) (s .few-rows), eq-eqb (length (M .xs)) (count M * w) (s .valid .x-long), eq-eqb (length (M .zs)) (count M * w) (s .valid .z-long), eq-eqb (length (M .es)) (phaseUnits (count M)) (laid-long (count M) (s .valid .exponents)))

@@ -167,8 +167,7 @@ module _ (n w : ℕ) {M : Mem} (v : Valid n w M) (a b : ℕ) (ha : a < count M) 
           x-long = q .x-rest .long ∙ v .x-long;
           z-long = q .z-rest .long ∙ v .z-long;
           packed = λ r h. go-packed r h (ℕ-discrete r a);
-          small = λ r. go-small r (ℕ-discrete r a);
-          exponents = laid-with (M .es) a value (count M) (v .exponents);
+          exponents = laid-with (M .es) a value (count M) ha (v .exponents);
         }
       where
         go-packed : (r : ℕ) → r < count M → Dec (r ≡ a) → Packed n w (row w r xs′) (row w r zs′)
@@ -176,10 +175,6 @@ module _ (n w : ℕ) {M : Mem} (v : Valid n w M) (a b : ℕ) (ha : a < count M) 
         go-packed r h (no ne) =
             subst (λ (s : List ℕ). Packed n w s (row w r zs′)) (sym (row-other w r a (q .x-rest) ne))
             (subst (λ (s : List ℕ). Packed n w (row w r (M .xs)) s) (sym (row-other w r a (q .z-rest) ne)) (v .packed r h))
-
-        go-small : (r : ℕ) → Dec (r ≡ a) → exponentAt (withExponent (M .es) a value) r < 4
-        go-small r (yes t) = subst (λ (k : ℕ). exponentAt (withExponent (M .es) a value) k < 4) (sym t) (subst (λ (k : ℕ). k < 4) (sym written) low)
-        go-small r (no ne) = subst (λ (k : ℕ). k < 4) (sym (exponent-other (M .es) a value r ne)) (v .small r)
 
     rows-new : rowsIn n w M′ ≡ mulAt (mulRow n) (rowsIn n w M) a b
     unfolding mulAt mulRow rowsIn qs M′

@@ -1,5 +1,5 @@
 -- RULES 4.9, row a by row b of the same set, 5, "The reduction rule", and 6.4: what the three calls answer, and what they leave in rows,
--- phase bytes and log. f is the first number of the table that fits, 0 for none; a refusal leaves all as it was. Assumes nothing.
+-- phase words and log. f is the first number of the table that fits, 0 for none; a refusal leaves all as it was. Assumes nothing.
 use Prim.Native.Nat.{ℕ, zero, suc, _+_}
 use mathlib.Core.Path.{_≡_}
 use mathlib.Core.List.{List, []}

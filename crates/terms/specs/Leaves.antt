@@ -29,7 +29,7 @@ firstPlace f (k ∷ ks) = cond (f k) 0 (suc (firstPlace f ks))
 
 -- what refusals 1 to 3 ask of a set, and both rows are in it
 abbrev pub bothIn : ℕ → Mem → ℕ → ℕ → Bool
-bothIn n M a b = eqb (fault (outTests n (count M) M)) 0 && (ltb a (count M) && ltb b (count M))
+bothIn n M a b = eqb (fault (outTests n M)) 0 && (ltb a (count M) && ltb b (count M))
 
 -- the words with others in the place of row r
 abbrev pub putRow : ℕ → ℕ → List ℕ → List ℕ → List ℕ

@@ -3,7 +3,7 @@ ghost use mathlib.Core.Path.{_≡_};
 ghost use Prim.Native.Nat.{_+_, _≤_};
 ghost use lib.ListN.{length};
 ghost use Rattle.encoding.specs.Set.{Sound};
-ghost use Rattle.encoding.specs.Lent.{before, after, lentOf, beforeOf, afterOf};
+ghost use Rattle.encoding.specs.Lent.{lent, before, after};
 ghost use Rattle.encoding.specs.Limits.{maxQubits, maxRows};
 ghost use Rattle.encoding.specs.Refusals.{fault, rowsTests};
 ghost use Rattle.terms.specs.Refused.{reduceFault, Reducible};
@@ -33,53 +33,54 @@ pub enum Clashes {
 }
 
 // The first number of the table that fits a set and two row numbers, or 0.
-fn imul_fault(n: usize, x: &[u64], z: &[u64], phases: &[u8], a: usize, b: usize) -> u8
-    ensures { λ r. ⌜ r ≡ fault (rowsTests n (before x z phases) a b) ⌝ }
-    ensures both { λ r. ⌜ (r ≡ 0 → BothIn n a b (before x z phases)) ⌝ }
+fn imul_fault(n: usize, m: usize, x: &[u64], z: &[u64], phases: &[u64], a: usize, b: usize) -> u8
+    ensures { λ r. ⌜ r ≡ fault (rowsTests n (before m x z phases) a b) ⌝ }
+    ensures both { λ r. ⌜ (r ≡ 0 → BothIn n a b (before m x z phases)) ⌝ }
 {
-    let m = phases.len();
     let large = (m <= a) | (m <= b);
-    let f = encoding::set_fault(n, x, z, phases);
+    let f = encoding::set_fault(n, m, x, z, phases);
     encoding::smaller(f, encoding::pick(large, 6, 0))
 }
 
 // Row a of the set is multiplied by row b, in place; the number of clashes is returned.
 pub fn imul(
     n: usize,
+    m: usize,
     x: &mut [u64],
     z: &mut [u64],
-    phases: &mut [u8],
+    phases: &mut [u64],
     a: RowNumber,
     b: RowNumber,
 ) -> Clashes
-    ensures { λ r. ⌜ Multiplies n (a .0) (b .0) (before x z phases) (after x z phases) r ⌝ }
+    ensures { λ r. ⌜ Multiplies n (a .0) (b .0) (before m x z phases) (after m x z phases) r ⌝ }
 {
-    let f = imul_fault(n, x, z, phases, a.0, b.0);
+    let f = imul_fault(n, m, x, z, phases, a.0, b.0);
     if f != 0 {
         return Clashes::Refused(f);
     }
-    Clashes::Number(rows::imul_unchecked(n, phases.len(), x, z, phases, a, b))
+    Clashes::Number(rows::imul_unchecked(n, m, x, z, phases, a, b))
 }
 
 // The first line of the table, by rank, that fits a set, an order and two lists, or 0. The set's lines come first, so the lists are looked at within
 // the limits only.
 pub fn reduce_fault(
     n: usize,
+    m: usize,
     x: &[u64],
     z: &[u64],
-    phases: &[u8],
+    phases: &[u64],
     order: &[u16],
     listed: &[u16],
     extra: &[u16],
 ) -> u8
-    ensures { λ r. ⌜ r ≡ reduceFault n (before x z phases) (now (order .entry)) (now (listed .entry)) (now (extra .entry)) ⌝ }
-    ensures passed { λ r. ⌜ (r ≡ 0 → Reducible n (now (order .entry)) (now (listed .entry)) (now (extra .entry)) (before x z phases)) ⌝ }
+    ensures { λ r. ⌜ r ≡ reduceFault n (before m x z phases) (now (order .entry)) (now (listed .entry)) (now (extra .entry)) ⌝ }
+    ensures passed { λ r. ⌜ (r ≡ 0 → Reducible n (now (order .entry)) (now (listed .entry)) (now (extra .entry)) (before m x z phases)) ⌝ }
 {
-    let f = encoding::set_fault(n, x, z, phases);
+    let f = encoding::set_fault(n, m, x, z, phases);
     if f != 0 {
         return f;
     }
-    lists::lists_fault(n, phases.len(), order, listed, extra)
+    lists::lists_fault(n, m, order, listed, extra)
 }
 
 // The reduction of a set that the refusals passed.
@@ -88,16 +89,16 @@ fn reduced(
     m: usize,
     x: &mut [u64],
     z: &mut [u64],
-    phases: &mut [u8],
+    phases: &mut [u64],
     order: &[u16],
     listed: &[u16],
     extra: &[u16],
     log: &mut [u16],
 ) -> Canonicalized
-    requires { ⌜ ListsIn n (now order) (now listed) (now extra) (lentOf m x z phases) ⌝ }
+    requires { ⌜ ListsIn n (now order) (now listed) (now extra) (lent m x z phases) ⌝ }
     ensures { λ r. ⌜ Leaves n 0
-        (outcomeOf n (now (order .entry)) (now (listed .entry)) (now (extra .entry)) (beforeOf m x z phases) (now (log .entry)))
-        (beforeOf m x z phases) (now (log .entry)) (afterOf m x z phases) (now (log .exit)) r ⌝ }
+        (outcomeOf n (now (order .entry)) (now (listed .entry)) (now (extra .entry)) (before m x z phases) (now (log .entry)))
+        (before m x z phases) (now (log .entry)) (after m x z phases) (now (log .exit)) r ⌝ }
 {
     let s = reduce::columns(n, m, x, z, phases, log, order, listed, extra);
     if s.full {
@@ -111,22 +112,23 @@ fn reduced(
 // The set is reduced by the order of columns: pivots are found among the listed rows, and these and the extra rows are cleared. Products are logged.
 pub fn canonicalize(
     n: usize,
+    m: usize,
     x: &mut [u64],
     z: &mut [u64],
-    phases: &mut [u8],
+    phases: &mut [u64],
     order: &[u16],
     listed: &[u16],
     extra: &[u16],
     log: &mut [u16],
 ) -> Canonicalized
-    ensures { λ r. ⌜ Reduces n (now (order .entry)) (now (listed .entry)) (now (extra .entry)) (before x z phases) (now (log .entry))
-        (after x z phases) (now (log .exit)) r ⌝ }
+    ensures { λ r. ⌜ Reduces n (now (order .entry)) (now (listed .entry)) (now (extra .entry)) (before m x z phases) (now (log .entry))
+        (after m x z phases) (now (log .exit)) r ⌝ }
 {
-    let f = reduce_fault(n, x, z, phases, order, listed, extra);
+    let f = reduce_fault(n, m, x, z, phases, order, listed, extra);
     if f != 0 {
         return Canonicalized::Refused(f);
     }
-    reduced(n, phases.len(), x, z, phases, order, listed, extra, log)
+    reduced(n, m, x, z, phases, order, listed, extra, log)
 }
 
 // The numbers from 0 on.
@@ -148,15 +150,15 @@ fn reduced_by(
     m: usize,
     x: &mut [u64],
     z: &mut [u64],
-    phases: &mut [u8],
+    phases: &mut [u64],
     columns: &[u16],
     rows: &[u16],
     log: &mut [u16],
 ) -> Canonicalized
-    requires { ⌜ Sound n (lentOf m x z phases) ⌝ }
+    requires { ⌜ Sound n (lent m x z phases) ⌝ }
     requires { ⌜ (now columns ≡ upTo (maxQubits + maxQubits)) × (now rows ≡ upTo maxRows) ⌝ }
-    ensures { λ r. ⌜ Leaves n 0 (wholeOutcome n (beforeOf m x z phases) (now (log .entry)))
-        (beforeOf m x z phases) (now (log .entry)) (afterOf m x z phases) (now (log .exit)) r ⌝ }
+    ensures { λ r. ⌜ Leaves n 0 (wholeOutcome n (before m x z phases) (now (log .entry)))
+        (before m x z phases) (now (log .entry)) (after m x z phases) (now (log .exit)) r ⌝ }
 {
     let k = n + n;
     reduced(
@@ -178,12 +180,12 @@ fn reduced_all(
     m: usize,
     x: &mut [u64],
     z: &mut [u64],
-    phases: &mut [u8],
+    phases: &mut [u64],
     log: &mut [u16],
 ) -> Canonicalized
-    requires { ⌜ Sound n (lentOf m x z phases) ⌝ }
-    ensures { λ r. ⌜ Leaves n 0 (wholeOutcome n (beforeOf m x z phases) (now (log .entry)))
-        (beforeOf m x z phases) (now (log .entry)) (afterOf m x z phases) (now (log .exit)) r ⌝ }
+    requires { ⌜ Sound n (lent m x z phases) ⌝ }
+    ensures { λ r. ⌜ Leaves n 0 (wholeOutcome n (before m x z phases) (now (log .entry)))
+        (before m x z phases) (now (log .entry)) (after m x z phases) (now (log .exit)) r ⌝ }
 {
     let mut columns = [0u16; MAX_COLUMNS];
     count_up(&mut columns);
@@ -195,16 +197,17 @@ fn reduced_all(
 // The whole set is reduced: X of each qubit, then Z, over all rows.
 pub fn canonicalize_all(
     n: usize,
+    m: usize,
     x: &mut [u64],
     z: &mut [u64],
-    phases: &mut [u8],
+    phases: &mut [u64],
     log: &mut [u16],
 ) -> Canonicalized
-    ensures { λ r. ⌜ ReducesAll n (before x z phases) (now (log .entry)) (after x z phases) (now (log .exit)) r ⌝ }
+    ensures { λ r. ⌜ ReducesAll n (before m x z phases) (now (log .entry)) (after m x z phases) (now (log .exit)) r ⌝ }
 {
-    let f = encoding::set_fault(n, x, z, phases);
+    let f = encoding::set_fault(n, m, x, z, phases);
     if f != 0 {
         return Canonicalized::Refused(f);
     }
-    reduced_all(n, phases.len(), x, z, phases, log)
+    reduced_all(n, m, x, z, phases, log)
 }

@@ -5,7 +5,7 @@ ghost use Prim.Native.Nat.{_+_, _≤_, _<_};
 ghost use lib.ListN.{length};
 ghost use Rattle.pauli.specs.Row.{mulRow, bitRow};
 ghost use Rattle.encoding.specs.Set.{Sound};
-ghost use Rattle.encoding.specs.Lent.{lentOf, beforeOf, afterOf};
+ghost use Rattle.encoding.specs.Lent.{lent, before, after};
 ghost use Rattle.reduction.specs.Log.{capacity};
 ghost use Rattle.reduction.specs.Workers.{through, multiplyC, turnC, leadC, pivotC, columnC};
 ghost use Rattle.terms.specs.Work.{Below, Ready, start, Does};
@@ -27,15 +27,15 @@ fn put(
     m: usize,
     x: &mut [u64],
     z: &mut [u64],
-    p: &mut [u8],
+    p: &mut [u64],
     log: &mut [u16],
     s: Progress,
     a: u16,
     b: u16,
 ) -> Progress
-    requires { ⌜ Ready n (lentOf m x z p) (now log) s ⌝ }
+    requires { ⌜ Ready n (lent m x z p) (now log) s ⌝ }
     requires { ⌜ (a < m) × (b < m) ⌝ }
-    ensures { λ r. ⌜ Does n (multiplyC (mulRow n) (capacity (now (log .entry))) a b) (beforeOf m x z p) (now (log .entry)) s (afterOf m x z p)
+    ensures { λ r. ⌜ Does n (multiplyC (mulRow n) (capacity (now (log .entry))) a b) (before m x z p) (now (log .entry)) s (after m x z p)
         (now (log .exit)) r ⌝ }
 {
     let k = s.entries;
@@ -64,17 +64,17 @@ fn turn(
     m: usize,
     x: &mut [u64],
     z: &mut [u64],
-    p: &mut [u8],
+    p: &mut [u64],
     log: &mut [u16],
     s: Progress,
     c: usize,
     pivot: u16,
     k: u16,
 ) -> Progress
-    requires { ⌜ Ready n (lentOf m x z p) (now log) s ⌝ }
+    requires { ⌜ Ready n (lent m x z p) (now log) s ⌝ }
     requires { ⌜ (c < n + n) × (pivot < m) × (k < m) ⌝ }
-    ensures { λ r. ⌜ Does n (turnC (bitRow n) (mulRow n) (capacity (now (log .entry))) c pivot k) (beforeOf m x z p) (now (log .entry)) s
-        (afterOf m x z p) (now (log .exit)) r ⌝ }
+    ensures { λ r. ⌜ Does n (turnC (bitRow n) (mulRow n) (capacity (now (log .entry))) c pivot k) (before m x z p) (now (log .entry)) s
+        (after m x z p) (now (log .exit)) r ⌝ }
 {
     if k == pivot {
         return s;
@@ -91,17 +91,17 @@ fn clear(
     m: usize,
     x: &mut [u64],
     z: &mut [u64],
-    p: &mut [u8],
+    p: &mut [u64],
     log: &mut [u16],
     list: &[u16],
     s: Progress,
     c: usize,
     pivot: u16,
 ) -> Progress
-    requires { ⌜ Ready n (lentOf m x z p) (now log) s ⌝ }
+    requires { ⌜ Ready n (lent m x z p) (now log) s ⌝ }
     requires { ⌜ (c < n + n) × (pivot < m) × Below m (now list) ⌝ }
-    ensures { λ r. ⌜ Does n (through (turnC (bitRow n) (mulRow n) (capacity (now (log .entry))) c pivot) (now (list .entry))) (beforeOf m x z p)
-        (now (log .entry)) s (afterOf m x z p) (now (log .exit)) r ⌝ }
+    ensures { λ r. ⌜ Does n (through (turnC (bitRow n) (mulRow n) (capacity (now (log .entry))) c pivot) (now (list .entry))) (before m x z p)
+        (now (log .entry)) s (after m x z p) (now (log .exit)) r ⌝ }
 {
     let mut r = s;
     let mut i = 0;
@@ -121,16 +121,16 @@ fn lead(
     m: usize,
     x: &mut [u64],
     z: &mut [u64],
-    p: &mut [u8],
+    p: &mut [u64],
     log: &mut [u16],
     s: Progress,
     pivot: u16,
     found: u16,
 ) -> Progress
-    requires { ⌜ Ready n (lentOf m x z p) (now log) s ⌝ }
+    requires { ⌜ Ready n (lent m x z p) (now log) s ⌝ }
     requires { ⌜ (pivot < m) × (found < m) ⌝ }
-    ensures { λ r. ⌜ Does n (leadC (bitRow n) (mulRow n) (capacity (now (log .entry))) pivot found) (beforeOf m x z p) (now (log .entry)) s
-        (afterOf m x z p) (now (log .exit)) r ⌝ }
+    ensures { λ r. ⌜ Does n (leadC (bitRow n) (mulRow n) (capacity (now (log .entry))) pivot found) (before m x z p) (now (log .entry)) s
+        (after m x z p) (now (log .exit)) r ⌝ }
 {
     if found == pivot {
         return s;
@@ -144,7 +144,7 @@ fn clear_both(
     m: usize,
     x: &mut [u64],
     z: &mut [u64],
-    p: &mut [u8],
+    p: &mut [u64],
     log: &mut [u16],
     listed: &[u16],
     extra: &[u16],
@@ -152,10 +152,10 @@ fn clear_both(
     c: usize,
     pivot: u16,
 ) -> Progress
-    requires { ⌜ Ready n (lentOf m x z p) (now log) s ⌝ }
+    requires { ⌜ Ready n (lent m x z p) (now log) s ⌝ }
     requires { ⌜ (c < n + n) × (pivot < m) × Below m (now listed) × Below m (now extra) ⌝ }
     ensures { λ r. ⌜ Does n (through (turnC (bitRow n) (mulRow n) (capacity (now (log .entry))) c pivot)
-        (now (listed .entry) ++ now (extra .entry))) (beforeOf m x z p) (now (log .entry)) s (afterOf m x z p) (now (log .exit)) r ⌝ }
+        (now (listed .entry) ++ now (extra .entry))) (before m x z p) (now (log .entry)) s (after m x z p) (now (log .exit)) r ⌝ }
 {
     let r = clear(n, m, x, z, p, log, listed, s, c, pivot);
     if r.full {
@@ -170,7 +170,7 @@ fn pivot_by(
     m: usize,
     x: &mut [u64],
     z: &mut [u64],
-    p: &mut [u8],
+    p: &mut [u64],
     log: &mut [u16],
     listed: &[u16],
     extra: &[u16],
@@ -179,11 +179,11 @@ fn pivot_by(
     pivot: u16,
     found: u16,
 ) -> Progress
-    requires { ⌜ Ready n (lentOf m x z p) (now log) s ⌝ }
+    requires { ⌜ Ready n (lent m x z p) (now log) s ⌝ }
     requires { ⌜ (c < n + n) × (pivot < m) × (found < m) × Below m (now listed)
         × Below m (now extra) ⌝ }
     ensures { λ r. ⌜ Does n (pivotC (bitRow n) (mulRow n) (capacity (now (log .entry)))
-        (now (listed .entry) ++ now (extra .entry)) c pivot found) (beforeOf m x z p) (now (log .entry)) s (afterOf m x z p) (now (log .exit)) r ⌝ }
+        (now (listed .entry) ++ now (extra .entry)) c pivot found) (before m x z p) (now (log .entry)) s (after m x z p) (now (log .exit)) r ⌝ }
 {
     let r = lead(n, m, x, z, p, log, s, pivot, found);
     if r.full {
@@ -198,18 +198,18 @@ fn column(
     m: usize,
     x: &mut [u64],
     z: &mut [u64],
-    p: &mut [u8],
+    p: &mut [u64],
     log: &mut [u16],
     listed: &[u16],
     extra: &[u16],
     s: Progress,
     c: usize,
 ) -> Progress
-    requires { ⌜ Ready n (lentOf m x z p) (now log) s ⌝ }
+    requires { ⌜ Ready n (lent m x z p) (now log) s ⌝ }
     requires { ⌜ (c < n + n) × (s .t ≤ length (now listed)) × Below m (now listed) × Below m (now extra) ⌝ }
     ensures { λ r. ⌜ r .t ≤ length (now (listed .entry)) ⌝ }
     ensures { λ r. ⌜ Does n (columnC (bitRow n) (mulRow n) (capacity (now (log .entry))) (now (listed .entry)) (now (extra .entry)) c)
-        (beforeOf m x z p) (now (log .entry)) s (afterOf m x z p) (now (log .exit)) r ⌝ }
+        (before m x z p) (now (log .entry)) s (after m x z p) (now (log .exit)) r ⌝ }
 {
     let t = s.t;
     let f = find(n, x, z, listed, t, c);
@@ -251,16 +251,16 @@ pub(crate) fn columns(
     m: usize,
     x: &mut [u64],
     z: &mut [u64],
-    p: &mut [u8],
+    p: &mut [u64],
     log: &mut [u16],
     order: &[u16],
     listed: &[u16],
     extra: &[u16],
 ) -> Progress
-    requires { ⌜ Sound n (lentOf m x z p) ⌝ }
+    requires { ⌜ Sound n (lent m x z p) ⌝ }
     requires { ⌜ Below (n + n) (now order) × Below m (now listed) × Below m (now extra) ⌝ }
     ensures { λ r. ⌜ Does n (through (columnC (bitRow n) (mulRow n) (capacity (now (log .entry))) (now (listed .entry)) (now (extra .entry)))
-        (now (order .entry))) (beforeOf m x z p) (now (log .entry)) start (afterOf m x z p) (now (log .exit)) r ⌝ }
+        (now (order .entry))) (before m x z p) (now (log .entry)) start (after m x z p) (now (log .exit)) r ⌝ }
 {
     let mut r = Progress {
         full: false,

@@ -5,7 +5,7 @@ ghost use lib.ListN.{drop};
 ghost use Rattle.encoding.specs.Limits.{maxRows, maxWords};
 ghost use Rattle.encoding.specs.Words.{bitAt};
 ghost use Rattle.encoding.specs.Set.{row, exponentAt, withExponent};
-ghost use Rattle.encoding.specs.Lent.{lentOf, beforeOf, afterOf};
+ghost use Rattle.encoding.specs.Lent.{lent, before, after};
 ghost use Rattle.terms.specs.Leaves.{bitIn, firstPlace, mulIn, clashesIn, InRows, RowsMultiplied};
 use encoding::MAX_QUBITS;
 use encoding::MAX_ROWS;
@@ -56,7 +56,7 @@ pub fn find(n: usize, x: &[u64], z: &[u64], listed: &[u16], t: usize, c: usize) 
 }
 
 // The exponents of row b and of the product are added to that of row a.
-fn add_exponent(p: &mut [u8], a: RowNumber, b: RowNumber, e: ComplexSign)
+fn add_exponent(p: &mut [u64], a: RowNumber, b: RowNumber, e: ComplexSign)
     ensures { λ _. ⌜ now (p .exit) ≡ withExponent (now (p .entry)) (a .0)
         ((exponentAt (now (p .entry)) (a .0) + exponentAt (now (p .entry)) (b .0) + e .0) % 4) ⌝ }
 {
@@ -71,31 +71,31 @@ fn mul_rows(
     m: usize,
     x: &mut [u64],
     z: &mut [u64],
-    p: &mut [u8],
+    p: &mut [u64],
     a: RowNumber,
     b: RowNumber,
 ) -> u16
-    requires { ⌜ InRows w (a .0) (b .0) (lentOf m x z p) ⌝ }
-    ensures { λ c. ⌜ RowsMultiplied w (a .0) (b .0) (beforeOf m x z p) (afterOf m x z p) c ⌝ }
+    requires { ⌜ InRows w (a .0) (b .0) (lent m x z p) ⌝ }
+    ensures { λ c. ⌜ RowsMultiplied w (a .0) (b .0) (before m x z p) (after m x z p) c ⌝ }
 {
     let f = products::imul_op_op(x, z, a.0 * w, b.0 * w, w);
     add_exponent(p, a, b, f.phase);
     f.clashes
 }
 
-// Row a of a set is multiplied by row b in place, with its phase byte, and the number of clashes is returned. Where lengths do not fit or a row
+// Row a of a set is multiplied by row b in place, with its exponent, and the number of clashes is returned. Where lengths do not fit or a row
 // is not there, nothing is done, and 0 is returned.
 pub fn imul_unchecked(
     n: usize,
     m: usize,
     x: &mut [u64],
     z: &mut [u64],
-    p: &mut [u8],
+    p: &mut [u64],
     a: RowNumber,
     b: RowNumber,
 ) -> u16
-    ensures { λ _. ⌜ afterOf m x z p ≡ mulIn n (a .0) (b .0) (beforeOf m x z p) ⌝ }
-    ensures number { λ c. ⌜ c ≡ clashesIn n (a .0) (b .0) (beforeOf m x z p) ⌝ }
+    ensures { λ _. ⌜ after m x z p ≡ mulIn n (a .0) (b .0) (before m x z p) ⌝ }
+    ensures number { λ c. ⌜ c ≡ clashesIn n (a .0) (b .0) (before m x z p) ⌝ }
 {
     if encoding::out_fault(n, m, x, z, p) != 0 {
         return 0;
