@@ -5,7 +5,7 @@ use lib.Ieee.{add, neg}
 use Rattle.pauli.specs.Row.{padMul, mulRow, bitOf}
 use Rattle.pauli.specs.Rows.{commute, holding, countOf}
 use Rattle.encoding.specs.Words.{word, unpack, bits, unbits, join, pack, layRows}
-use Rattle.encoding.specs.Set.{exponentAt, layExponents, rowsIn, list, layIn}
+use Rattle.encoding.specs.Set.{wordIn, exponentAt, layExponents, rowsIn, list, layIn}
 use Rattle.encoding.specs.Refusals.{faultFrom, joined, some, someBelow, badBits, badPhases}
 use Rattle.cmpnt_list.specs.Calls.{countIn, commutesWith}
 use Rattle.reduction.specs.Lists.{has, distinct}
@@ -22,7 +22,7 @@ use Rattle.mat_elem.specs.float.Sums.{overflows}
 use Rattle.cases.specs.Table.{Table}
 
 pub p1-to-p12 : Table
-unfolding padMul mulRow bitOf commute holding countOf word unpack bits unbits join pack layRows exponentAt layExponents rowsIn list layIn faultFrom byRank numbered joined some someBelow badBits badPhases countIn commutesWith has distinct mulAt multiply counted first clear pivot columnBy column columns reduce replay units logged capped fallsAfter sumOver whole.elementOf float.elementOf overflows add neg
+unfolding padMul mulRow bitOf commute holding countOf word unpack bits unbits join pack layRows wordIn exponentAt layExponents rowsIn list layIn faultFrom byRank numbered joined some someBelow badBits badPhases countIn commutesWith has distinct mulAt multiply counted first clear pivot columnBy column columns reduce replay units logged capped fallsAfter sumOver whole.elementOf float.elementOf overflows add neg
 p1-to-p12 =
     record {
       p1 = record { answer = refl; rows = refl; numbers = refl };

@@ -8,7 +8,7 @@ use Prim.Native.Nat.{ℕ}
 use lib.IntN.{pos, negℤ}
 use lib.Ieee.{Float, fin}
 use Rattle.pauli.specs.declared.PauliMatrix.the-variants.{I}
-use Rattle.encoding.specs.Set.{Mem, mem}
+use Rattle.encoding.specs.Set.{Mem, memOf}
 use Rattle.encoding.specs.declared.Answer.the-variants.{Done}
 use Rattle.cmpnt_list.specs.Calls.{countIn, commutesWith, MulPairwise, ImulState}
 use Rattle.cmpnt_list.specs.declared.Tally.the-variants.{Number}
@@ -24,22 +24,22 @@ use Rattle.mat_elem.specs.float.Sums as float
 use Rattle.mat_elem.specs.declared.float.Element as answer
 use Rattle.mat_elem.specs.declared.float.Element.the-variants as sum
 
--- one row of one qubit with phase byte p: I, X, Y, Z
+-- one row of one qubit with exponent p: I, X, Y, Z
 abbrev rowI : ℕ → Mem
-rowI p = mem (0 ∷ []) (0 ∷ []) (p ∷ [])
+rowI p = memOf 1 (0 ∷ []) (0 ∷ []) (p ∷ [])
 
 abbrev rowX : ℕ → Mem
-rowX p = mem (1 ∷ []) (0 ∷ []) (p ∷ [])
+rowX p = memOf 1 (1 ∷ []) (0 ∷ []) (p ∷ [])
 
 abbrev rowY : ℕ → Mem
-rowY p = mem (1 ∷ []) (1 ∷ []) (p ∷ [])
+rowY p = memOf 1 (1 ∷ []) (1 ∷ []) (p ∷ [])
 
 abbrev rowZ : ℕ → Mem
-rowZ p = mem (0 ∷ []) (1 ∷ []) (p ∷ [])
+rowZ p = memOf 1 (0 ∷ []) (1 ∷ []) (p ∷ [])
 
 -- P9: two qubits; rows Z0, X0X1, Y0; the order X0 X1 Z0 Z1; all listed
 abbrev three : Mem
-three = mem (0 ∷ 3 ∷ 1 ∷ []) (1 ∷ 0 ∷ 1 ∷ []) (0 ∷ 0 ∷ 0 ∷ [])
+three = memOf 3 (0 ∷ 3 ∷ 1 ∷ []) (1 ∷ 0 ∷ 1 ∷ []) (0 ∷ [])
 
 abbrev order : List ℕ
 order = 0 ∷ 1 ∷ 2 ∷ 3 ∷ []
@@ -76,25 +76,25 @@ pub record Table : Type 0 where
   pub p3 : MulPairwise 1 (rowZ 0) (rowX 0) (rowI 0) (rowY 1) (9 ∷ []) (1 ∷ []) Done
   -- 11.7 X of phase 3 times Y of phase 2: Z, 2. No qubits, phase 1 times phase 0: 1
   pub signed : MulPairwise 1 (rowX 3) (rowY 2) (rowI 0) (rowZ 2) (9 ∷ []) (1 ∷ []) Done
-  pub signed-none : MulPairwise 0 (mem [] [] (1 ∷ [])) (mem [] [] (0 ∷ [])) (mem [] [] (9 ∷ [])) (mem [] [] (1 ∷ [])) (9 ∷ []) (0 ∷ []) Done
+  pub signed-none : MulPairwise 0 (memOf 1 [] [] (1 ∷ [])) (memOf 1 [] [] (0 ∷ [])) (memOf 1 [] [] (9 ∷ [])) (memOf 1 [] [] (1 ∷ [])) (9 ∷ []) (0 ∷ []) Done
   -- P4 Y on 1: state 0, 3. P5 Z on 1: state 1, 2
   pub p4 : ImulState 1 (rowY 0) 0 (1 ∷ []) (0 ∷ []) (Exponent (record { 0 = 3 }))
   pub p5 : ImulState 1 (rowZ 0) 0 (1 ∷ []) (1 ∷ []) (Exponent (record { 0 = 2 }))
   -- P6 all I: n = 65, 64, 0
-  pub p6 : countIn 65 (mem (0 ∷ 0 ∷ []) (0 ∷ 0 ∷ []) (0 ∷ [])) 0 I ≡ Number 65
-  pub p6-64 : countIn 64 (mem (0 ∷ []) (0 ∷ []) (0 ∷ [])) 0 I ≡ Number 64
-  pub p6-0 : countIn 0 (mem [] [] (0 ∷ [])) 0 I ≡ Number 0
+  pub p6 : countIn 65 (memOf 1 (0 ∷ 0 ∷ []) (0 ∷ 0 ∷ []) (0 ∷ [])) 0 I ≡ Number 65
+  pub p6-64 : countIn 64 (memOf 1 (0 ∷ []) (0 ∷ []) (0 ∷ [])) 0 I ≡ Number 64
+  pub p6-0 : countIn 0 (memOf 1 [] [] (0 ∷ [])) 0 I ≡ Number 0
   -- P7 XX against ZZ commutes, XI against ZZ does not
-  pub p7 : commutesWith 2 (mem (3 ∷ 0 ∷ []) (0 ∷ 3 ∷ []) (0 ∷ 0 ∷ [])) 0 1 ≡ Is true
-  pub p7-not : commutesWith 2 (mem (1 ∷ 0 ∷ []) (0 ∷ 3 ∷ []) (0 ∷ 0 ∷ [])) 0 1 ≡ Is false
+  pub p7 : commutesWith 2 (memOf 2 (3 ∷ 0 ∷ []) (0 ∷ 3 ∷ []) (0 ∷ [])) 0 1 ≡ Is true
+  pub p7-not : commutesWith 2 (memOf 2 (1 ∷ 0 ∷ []) (0 ∷ 3 ∷ []) (0 ∷ [])) 0 1 ≡ Is false
   -- P8 the row X0 with p = 3 times itself: I, p = 2, no clash
   pub p8 : Multiplies 1 0 0 (rowX 3) (rowI 2) (clashes.Number 0)
   -- P9 a log of 14 units, its 7 entries, t = 3; the rows X0 p = 1, X1 p = 3, Z0 p = 0
   pub p9 : Reduces 2 order listed [] three (9 ∷ 9 ∷ 9 ∷ 9 ∷ 9 ∷ 9 ∷ 9 ∷ 9 ∷ 9 ∷ 9 ∷ 9 ∷ 9 ∷ 9 ∷ 9 ∷ [])
-      (mem (1 ∷ 2 ∷ 0 ∷ []) (0 ∷ 0 ∷ 1 ∷ []) (1 ∷ 3 ∷ 0 ∷ [])) (0 ∷ 1 ∷ 1 ∷ 0 ∷ 2 ∷ 0 ∷ 1 ∷ 2 ∷ 0 ∷ 1 ∷ 2 ∷ 1 ∷ 1 ∷ 2 ∷ []) (reduced.Done 7 3)
+      (memOf 3 (1 ∷ 2 ∷ 0 ∷ []) (0 ∷ 0 ∷ 1 ∷ []) (13 ∷ [])) (0 ∷ 1 ∷ 1 ∷ 0 ∷ 2 ∷ 0 ∷ 1 ∷ 2 ∷ 0 ∷ 1 ∷ 2 ∷ 1 ∷ 1 ∷ 2 ∷ []) (reduced.Done 7 3)
   -- P10 the same with capacity 6: refusal 8; the rows X0 p = 1, Z0X1 p = 3, Z0 p = 0
   pub p10 : Reduces 2 order listed [] three (9 ∷ 9 ∷ 9 ∷ 9 ∷ 9 ∷ 9 ∷ 9 ∷ 9 ∷ 9 ∷ 9 ∷ 9 ∷ 9 ∷ [])
-      (mem (1 ∷ 2 ∷ 0 ∷ []) (0 ∷ 1 ∷ 1 ∷ []) (1 ∷ 3 ∷ 0 ∷ [])) (0 ∷ 1 ∷ 1 ∷ 0 ∷ 2 ∷ 0 ∷ 1 ∷ 2 ∷ 0 ∷ 1 ∷ 2 ∷ 1 ∷ []) (reduced.Full 6)
+      (memOf 3 (1 ∷ 2 ∷ 0 ∷ []) (0 ∷ 1 ∷ 1 ∷ []) (13 ∷ [])) (0 ∷ 1 ∷ 1 ∷ 0 ∷ 2 ∷ 0 ∷ 1 ∷ 2 ∷ 0 ∷ 1 ∷ 2 ∷ 1 ∷ []) (reduced.Full 6)
   pub p10-number : reducedNumber (reduced.Full 6) ≡ 8
   -- P11 bra 0, ket 1: 5-2i; bra 1, ket 1: -3; bra 3, ket 0: no block
   pub p11 : four 0 1 ≡ Sum (pos 5) (negℤ (pos 2))

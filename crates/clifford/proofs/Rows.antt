@@ -18,7 +18,7 @@ use Rattle.encoding.specs.Limits.{wordsOf}
 use Rattle.encoding.specs.Words.{layRows}
 use Rattle.encoding.specs.Set.{Mem, memOf, count, phaseUnits, exponentAt, withExponent, layExponents, rowsIn, rowsOf, list, layIn}
 use Rattle.encoding.proofs.Memory.{mem-eq}
-use Rattle.encoding.proofs.Exponents.{laid-long, laid-from, units-with, exponent-same, exponent-other}
+use Rattle.encoding.proofs.Exponents.{laid-long, laid-as, laid-with, exponent-same, exponent-other}
 use Rattle.encoding.proofs.WordLaws.{Fit}
 use Rattle.gates.specs.Gates.{differ, conj, sign, conjRow}
 use Rattle.gates.specs.declared.Gate.{Gate}
@@ -54,7 +54,8 @@ module _ (n r q : ℕ) {M : Mem} (d : QubitReady n r q M) (p : Pauli) {xs′ zs�
 
     exponents : withExponent (M .es) r v ≡ layExponents (count M) (λ k. atRow (rowsOf n M) r (turnedWith q p b) k .p)
     unfolding rowsIn
-    exponents = laid-from (count M) (λ k. atRow (rowsOf n M) r (turnedWith q p b) k .p) (units-with (M .es) r v ∙ es-long) (λ k _. go k (ℕ-discrete k r))
+    exponents =
+        laid-as (count M) (laid-with (M .es) r v (count M) (d .row-in) (d .sound .valid .exponents)) (λ k. atRow (rowsOf n M) r (turnedWith q p b) k .p) (λ k _. go k (ℕ-discrete k r))
       where
         go : (k : ℕ) → Dec (k ≡ r) → exponentAt (withExponent (M .es) r v) k ≡ atRow (rowsOf n M) r (turnedWith q p b) k .p
         go k (yes e) =

@@ -3,7 +3,7 @@ ghost use mathlib.Core.Path.{_≡_};
 ghost use mathlib.Core.Bool.{cond, true, not, _&&_};
 ghost use Rattle.pauli.specs.Pauli.{ofBits, hasX, hasZ};
 ghost use Rattle.encoding.specs.Set.{rowsOf, lay};
-ghost use Rattle.encoding.specs.Lent.{before, after, lentOf, beforeOf, afterOf};
+ghost use Rattle.encoding.specs.Lent.{lent, before, after};
 ghost use Rattle.gates.specs.Gates.{differ, conjRow, conjRows};
 ghost use Rattle.gates.specs.declared.Gate.the-variants as gate;
 ghost use Rattle.clifford.specs.Calls.{largeQubit, oneQubit, gateFault, Conjugates};
@@ -38,11 +38,11 @@ fn one_qubit_twice(g: Gate) -> bool
 }
 
 // The first line of the table, by rank, that fits a set and a gate, or 0.
-fn gate_fault(n: usize, x: &[u64], z: &[u64], phases: &[u8], g: Gate) -> u8
-    ensures { λ r. ⌜ r ≡ gateFault n (before x z phases) g ⌝ }
-    ensures none { λ r. ⌜ (r ≡ 0 → Ready n g (before x z phases)) ⌝ }
+fn gate_fault(n: usize, m: usize, x: &[u64], z: &[u64], phases: &[u64], g: Gate) -> u8
+    ensures { λ r. ⌜ r ≡ gateFault n (before m x z phases) g ⌝ }
+    ensures none { λ r. ⌜ (r ≡ 0 → Ready n g (before m x z phases)) ⌝ }
 {
-    let f = encoding::set_fault(n, x, z, phases);
+    let f = encoding::set_fault(n, m, x, z, phases);
     if f != 0 {
         return f;
     }
@@ -173,15 +173,15 @@ fn set_turned(
     m: usize,
     x: &mut [u64],
     z: &mut [u64],
-    phases: &mut [u8],
+    phases: &mut [u64],
     r: RowNumber,
     q: QubitNumber,
     p: PauliMatrix,
     turns: bool,
 )
-    requires { ⌜ QubitReady n (r .0) (q .0) (lentOf m x z phases) ⌝ }
-    ensures { λ _. ⌜ Changed n (r .0) (turnedWith (q .0) p turns) (beforeOf m x z phases)
-        (afterOf m x z phases) ⌝ }
+    requires { ⌜ QubitReady n (r .0) (q .0) (lent m x z phases) ⌝ }
+    ensures { λ _. ⌜ Changed n (r .0) (turnedWith (q .0) p turns) (before m x z phases)
+        (after m x z phases) ⌝ }
 {
     one_qubit::set_pauli_unchecked(n, x, z, r, q, p);
     let e = encoding::get_exponent(phases, r);
@@ -198,13 +198,13 @@ fn h_row(
     m: usize,
     x: &mut [u64],
     z: &mut [u64],
-    phases: &mut [u8],
+    phases: &mut [u64],
     r: RowNumber,
     q: QubitNumber,
 )
-    requires { ⌜ RowReady n (r .0) (gate.H q) (lentOf m x z phases) ⌝ }
-    ensures { λ _. ⌜ Changed n (r .0) (conjRow n (gate.H q)) (beforeOf m x z phases)
-        (afterOf m x z phases) ⌝ }
+    requires { ⌜ RowReady n (r .0) (gate.H q) (lent m x z phases) ⌝ }
+    ensures { λ _. ⌜ Changed n (r .0) (conjRow n (gate.H q)) (before m x z phases)
+        (after m x z phases) ⌝ }
 {
     let p = one_qubit::get_pauli_unchecked(n, x, z, r, q);
     set_turned(n, m, x, z, phases, r, q, h_image(p), is_y(p));
@@ -216,13 +216,13 @@ fn s_row(
     m: usize,
     x: &mut [u64],
     z: &mut [u64],
-    phases: &mut [u8],
+    phases: &mut [u64],
     r: RowNumber,
     q: QubitNumber,
 )
-    requires { ⌜ RowReady n (r .0) (gate.S q) (lentOf m x z phases) ⌝ }
-    ensures { λ _. ⌜ Changed n (r .0) (conjRow n (gate.S q)) (beforeOf m x z phases)
-        (afterOf m x z phases) ⌝ }
+    requires { ⌜ RowReady n (r .0) (gate.S q) (lent m x z phases) ⌝ }
+    ensures { λ _. ⌜ Changed n (r .0) (conjRow n (gate.S q)) (before m x z phases)
+        (after m x z phases) ⌝ }
 {
     let p = one_qubit::get_pauli_unchecked(n, x, z, r, q);
     set_turned(n, m, x, z, phases, r, q, s_image(p), is_y(p));
@@ -234,16 +234,16 @@ fn set_both(
     m: usize,
     x: &mut [u64],
     z: &mut [u64],
-    phases: &mut [u8],
+    phases: &mut [u64],
     r: RowNumber,
     control: QubitNumber,
     target: QubitNumber,
     p: PauliMatrix,
     q: PauliMatrix,
 )
-    requires { ⌜ RowReady n (r .0) (gate.CX control target) (lentOf m x z phases) ⌝ }
-    ensures { λ _. ⌜ Changed n (r .0) (withBoth (control .0) (target .0) p q) (beforeOf m x z phases)
-        (afterOf m x z phases) ⌝ }
+    requires { ⌜ RowReady n (r .0) (gate.CX control target) (lent m x z phases) ⌝ }
+    ensures { λ _. ⌜ Changed n (r .0) (withBoth (control .0) (target .0) p q) (before m x z phases)
+        (after m x z phases) ⌝ }
 {
     one_qubit::set_pauli_unchecked(n, x, z, r, target, target_image(p, q));
     set_turned(
@@ -265,14 +265,14 @@ fn cx_row(
     m: usize,
     x: &mut [u64],
     z: &mut [u64],
-    phases: &mut [u8],
+    phases: &mut [u64],
     r: RowNumber,
     control: QubitNumber,
     target: QubitNumber,
 )
-    requires { ⌜ RowReady n (r .0) (gate.CX control target) (lentOf m x z phases) ⌝ }
-    ensures { λ _. ⌜ Changed n (r .0) (conjRow n (gate.CX control target)) (beforeOf m x z phases)
-        (afterOf m x z phases) ⌝ }
+    requires { ⌜ RowReady n (r .0) (gate.CX control target) (lent m x z phases) ⌝ }
+    ensures { λ _. ⌜ Changed n (r .0) (conjRow n (gate.CX control target)) (before m x z phases)
+        (after m x z phases) ⌝ }
 {
     let p = one_qubit::get_pauli_unchecked(n, x, z, r, control);
     let q = one_qubit::get_pauli_unchecked(n, x, z, r, target);
@@ -285,13 +285,13 @@ fn gate_row(
     m: usize,
     x: &mut [u64],
     z: &mut [u64],
-    phases: &mut [u8],
+    phases: &mut [u64],
     r: RowNumber,
     g: Gate,
 )
-    requires { ⌜ RowReady n (r .0) g (lentOf m x z phases) ⌝ }
-    ensures { λ _. ⌜ Changed n (r .0) (conjRow n g) (beforeOf m x z phases)
-        (afterOf m x z phases) ⌝ }
+    requires { ⌜ RowReady n (r .0) g (lent m x z phases) ⌝ }
+    ensures { λ _. ⌜ Changed n (r .0) (conjRow n g) (before m x z phases)
+        (after m x z phases) ⌝ }
 {
     match g {
         Gate::H(q) => h_row(n, m, x, z, phases, r, q),
@@ -301,10 +301,10 @@ fn gate_row(
 }
 
 // The gate on every row.
-fn all_rows(n: usize, m: usize, x: &mut [u64], z: &mut [u64], phases: &mut [u8], g: Gate)
-    requires { ⌜ Ready n g (lentOf m x z phases) ⌝ }
-    ensures { λ _. ⌜ afterOf m x z phases
-        ≡ lay n m (conjRows n g (rowsOf n (beforeOf m x z phases))) ⌝ }
+fn all_rows(n: usize, m: usize, x: &mut [u64], z: &mut [u64], phases: &mut [u64], g: Gate)
+    requires { ⌜ Ready n g (lent m x z phases) ⌝ }
+    ensures { λ _. ⌜ after m x z phases
+        ≡ lay n m (conjRows n g (rowsOf n (before m x z phases))) ⌝ }
 {
     let mut r = 0;
     while r < m {
@@ -316,18 +316,19 @@ fn all_rows(n: usize, m: usize, x: &mut [u64], z: &mut [u64], phases: &mut [u8],
 // Every row of the set is conjugated by the gate.
 pub fn conj_clifford(
     n: usize,
+    m: usize,
     x: &mut [u64],
     z: &mut [u64],
-    phases: &mut [u8],
+    phases: &mut [u64],
     gate: Gate,
 ) -> Answer
-    ensures { λ a. ⌜ Conjugates n gate (before x z phases)
-        (after x z phases) a ⌝ }
+    ensures { λ a. ⌜ Conjugates n gate (before m x z phases)
+        (after m x z phases) a ⌝ }
 {
-    let f = gate_fault(n, x, z, phases, gate);
+    let f = gate_fault(n, m, x, z, phases, gate);
     if f != 0 {
         return Answer::Refused(f);
     }
-    all_rows(n, phases.len(), x, z, phases, gate);
+    all_rows(n, m, x, z, phases, gate);
     Answer::Done
 }

@@ -13,7 +13,8 @@ use Rattle.pauli.specs.Pauli.{hasX, hasZ}
 use Rattle.pauli.specs.Row.{Row}
 use Rattle.encoding.specs.Limits.{maxRows, wordsOf}
 use Rattle.encoding.specs.Words.{layRows}
-use Rattle.encoding.specs.Set.{Mem, count, rowsIn, rowsOf, list, layExponents, layIn, lay, Valid, Sound}
+use Rattle.encoding.specs.Set.{Mem, count, rowsIn, rowsOf, list, layIn, lay, Valid, Sound}
+use Rattle.encoding.proofs.Exponents.{exponent-small, lay-alike}
 use Rattle.encoding.proofs.Memory.{row-count, read-lay, valid-lay, count-lay}
 use Rattle.one_qubit.specs.Leaves.{atRow}
 
@@ -34,10 +35,10 @@ list-same zero f g h = refl
 list-same {A} (suc m) f g h = ap₂ (λ (a : A) (l : List A). a ∷ l) (h 0 (zero-lt-suc m)) (list-same m (λ k. f (suc k)) (λ k. g (suc k)) (λ k l. h (suc k) (suc-le-suc l)))
 
 pub lay-same : (n m : ℕ) (σ τ : ℕ → Row) → ((k : ℕ) → k < m → σ k ≡ τ k) → lay n m σ ≡ lay n m τ
-unfolding layIn layExponents
+unfolding layIn
 lay-same n m σ τ h =
     let ps : list m (λ k. σ k .ps) ≡ list m (λ k. τ k .ps) = list-same m (λ k. σ k .ps) (λ k. τ k .ps) (λ k l. ap (λ (x : Row). x .ps) (h k l)) in
-    let es : list m (λ k. σ k .p) ≡ list m (λ k. τ k .p) = list-same m (λ k. σ k .p) (λ k. τ k .p) (λ k l. ap (λ (x : Row). x .p) (h k l)) in
+    let es = lay-alike m (λ k. σ k .p) (λ k. τ k .p) (λ k l. ap (λ (x : Row). x .p) (h k l)) in
     λ i. record { m = m; xs = layRows hasX (wordsOf n) (ps i); zs = layRows hasZ (wordsOf n) (ps i); es = es i }
 
 -- ---- rows of n qubits with exponents below 4
@@ -47,7 +48,7 @@ Fine n x = (length (x .ps) ≡ n) × (x .p < 4)
 
 pub fine-rows : (n : ℕ) {M : Mem} → Sound n M → (k : ℕ) → k < count M → Fine n (rowsOf n M k)
 unfolding rowsIn
-fine-rows n s k h = (row-count n (wordsOf n) (s .valid) k h, s .valid .small k)
+fine-rows n {M} s k h = (row-count n (wordsOf n) (s .valid) k h, exponent-small (M .es) k)
 
 -- a whole set laid from such rows
 module _ (n : ℕ) {M M′ : Mem} (s : Sound n M) (σ : ℕ → Row) (fine : (k : ℕ) → k < count M → Fine n (σ k)) (e : M′ ≡ lay n (count M) σ) where

@@ -17,13 +17,14 @@ use Rattle.encoding.specs.Limits.{wordsOf}
 use Rattle.encoding.specs.Words.{bitAt, withBit, layRows}
 use Rattle.encoding.specs.Set.{Mem, memOf, count, rowsIn, rowsOf, list, layExponents, layIn, lay, QubitSet, Sound}
 use Rattle.encoding.proofs.BitLaws.{lay-of, bit-lay}
+use Rattle.encoding.proofs.Exponents.{lay-alike}
 use Rattle.encoding.proofs.Memory.{mem-eq, row-count, lay-back}
 use Rattle.encoding.proofs.Parts.{row-end, length-list, getD-list}
 use Rattle.encoding.proofs.Qubits.{qubit-at, inside, bit-same, bit-other}
 use Rattle.encoding.proofs.WordLaws.{Fit}
 use Rattle.one_qubit.specs.Leaves.{inLimits, placeOf, pauliIn, PauliSet, withPauli, atRow}
 use Rattle.one_qubit.proofs.Limits.{limits-in, pauli-in}
-use Rattle.one_qubit.proofs.OneRow.{row-here, row-other, list-same}
+use Rattle.one_qubit.proofs.OneRow.{row-here, row-other}
 
 -- ---- where the bits of a qubit lie
 
@@ -96,8 +97,7 @@ module _ (w m r q : ℕ) (p : Pauli) (f : Pauli → Bool) (f0 : f I ≡ false) (
 
 -- no phase changes
 same-phases : (m : ℕ) (σ : ℕ → Row) (r q : ℕ) (p : Pauli) → layExponents m (λ k. σ k .p) ≡ layExponents m (λ k. atRow σ r (withPauli q p) k .p)
-unfolding layExponents
-same-phases m σ r q p = list-same m (λ k. σ k .p) (λ k. atRow σ r (withPauli q p) k .p) (λ k h. at k (ℕ-discrete k r))
+same-phases m σ r q p = lay-alike m (λ k. σ k .p) (λ k. atRow σ r (withPauli q p) k .p) (λ k h. at k (ℕ-discrete k r))
   where
     at : (k : ℕ) → Dec (k ≡ r) → σ k .p ≡ atRow σ r (withPauli q p) k .p
     at k (yes e) = ap (λ (x : Row). x .p) (sym (row-here σ r (withPauli q p) k e))

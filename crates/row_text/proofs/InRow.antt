@@ -14,7 +14,7 @@ use Rattle.encoding.proofs.WordLaws.{Fit}
 use Rattle.encoding.proofs.Padding.{pack-cut}
 use Rattle.encoding.proofs.Reading.{length-pack, qubits-pack}
 use Rattle.encoding.proofs.Memory.{clean-of}
-use Rattle.encoding.proofs.Exponents.{laid-long}
+use Rattle.encoding.proofs.Exponents.{laid-as}
 use Rattle.encoding.proofs.Sets.{laid-by}
 use Rattle.products.specs.Leaves.{Outside}
 use Rattle.products.proofs.PartLaws.{row-other}
@@ -192,12 +192,10 @@ module _ (n w : ℕ) {M : Mem} (v : Valid n w M) (r : ℕ) (ps : List Pauli) whe
       (record {
         x-long = ox .long ∙ v .x-long;
         z-long = oz .long ∙ v .z-long;
-        many = refl;
-        p-long = laid-long (count M) (v .exponents);
         x-row = λ k h. xr k h (ℕ-discrete k r);
         z-row = λ k h. zr k h (ℕ-discrete k r);
-        byte = λ k h. br k (ℕ-discrete k r);
       })
+      (laid-as (count M) (v .exponents) (λ k. withRow (rowsIn n w M) r ps k .p) (λ k h. br k (ℕ-discrete k r)))
     where
       xr : (k : ℕ) → k < count M → Dec (k ≡ r) → row w k xs′ ≡ pack hasX w (withRow (rowsIn n w M) r ps k .ps)
       xr k h (yes e) = ap (λ (j : ℕ). row w j xs′) e ∙ (hx ∙ ap (λ (x : Row). pack hasX w (x .ps)) (sym (with-here (rowsIn n w M) r ps k e)))

@@ -7,7 +7,8 @@ ghost use lib.ListN.{length, drop};
 ghost use Rattle.text.specs.Numbers.{numeral};
 ghost use Rattle.encoding.specs.Limits.{maxQubits, maxRows, wordsOf};
 ghost use Rattle.encoding.specs.Words.{qubits};
-ghost use Rattle.encoding.specs.Set.{mem, rowsOf, Sound};
+ghost use Rattle.encoding.specs.Set.{rowsOf, Sound};
+ghost use Rattle.encoding.specs.Lent.{lent, before};
 ghost use Rattle.cmpnt_list.specs.Workers.{RowAt};
 ghost use Rattle.row_text.specs.Text.{spaced, textOf};
 ghost use Rattle.row_text.specs.Calls.{tooShort, TextWritten, FmtElem};
@@ -202,13 +203,21 @@ fn fmt_row(n: usize, x: &[u64], z: &[u64], out: &mut [u8]) -> Written
 }
 
 // The text of row r.
-fn fmt_at(n: usize, x: &[u64], z: &[u64], phases: &[u8], r: usize, out: &mut [u8]) -> Written
-    requires { ⌜ Sound n (mem (now x) (now z) (now phases)) ⌝ }
-    requires { ⌜ r < length (now phases) ⌝ }
-    ensures { λ a. ⌜ TextWritten (tooShort (rowsOf n (mem (now (x .entry)) (now (z .entry)) (now (phases .entry))) r .ps) (now (out .entry)))
-        (rowsOf n (mem (now (x .entry)) (now (z .entry)) (now (phases .entry))) r .ps) (now (out .entry)) (now (out .exit)) a ⌝ }
+fn fmt_at(
+    n: usize,
+    m: usize,
+    x: &[u64],
+    z: &[u64],
+    phases: &[u64],
+    r: usize,
+    out: &mut [u8],
+) -> Written
+    requires { ⌜ Sound n (lent m x z phases) ⌝ }
+    requires { ⌜ r < m ⌝ }
+    ensures { λ a. ⌜ TextWritten (tooShort (rowsOf n (before m x z phases) r .ps) (now (out .entry)))
+        (rowsOf n (before m x z phases) r .ps) (now (out .entry)) (now (out .exit)) a ⌝ }
 {
-    let s = row_span(r, n, phases.len());
+    let s = row_span(r, n, m);
     let a = s.0;
     let e = s.1;
     fmt_row(n, &x[a..e], &z[a..e], out)
@@ -230,17 +239,18 @@ pub(crate) fn row_span(r: usize, n: usize, m: usize) -> Span
 // The text of a row into the lent output, and its length.
 pub fn fmt_elem(
     n: usize,
+    m: usize,
     x: &[u64],
     z: &[u64],
-    phases: &[u8],
+    phases: &[u64],
     row: RowNumber,
     out: &mut [u8],
 ) -> Written
-    ensures { λ a. ⌜ FmtElem n (mem (now (x .entry)) (now (z .entry)) (now (phases .entry))) (row .0) (now (out .entry)) (now (out .exit)) a ⌝ }
+    ensures { λ a. ⌜ FmtElem n (before m x z phases) (row .0) (now (out .entry)) (now (out .exit)) a ⌝ }
 {
-    let f = cmpnt_list::row_fault(n, x, z, phases, phases.len() <= row.0);
+    let f = cmpnt_list::row_fault(n, m, x, z, phases, m <= row.0);
     if f != 0 {
         return Written::Refused(f);
     }
-    fmt_at(n, x, z, phases, row.0, out)
+    fmt_at(n, m, x, z, phases, row.0, out)
 }

@@ -4,7 +4,8 @@ ghost use mathlib.Core.List.{[]};
 ghost use Prim.Native.Nat.{_≤_, _<_};
 ghost use lib.ListN.{length, drop, take};
 ghost use Rattle.encoding.specs.Limits.{maxQubits, maxWords, wordsOf};
-ghost use Rattle.encoding.specs.Set.{mem, Sound};
+ghost use Rattle.encoding.specs.Set.{Sound};
+ghost use Rattle.encoding.specs.Lent.{lent, before, after};
 ghost use Rattle.encoding.specs.Refusals.{isOn};
 ghost use Rattle.row_text.specs.Calls.{ParseElem};
 ghost use Rattle.row_text.specs.Workers.{letterOf, past, left, lettered as Workers·lettered, NamedBy, NextPauli};
@@ -172,13 +173,21 @@ fn parse_row(n: usize, s: &[u8], x: &mut [u64], z: &mut [u64]) -> bool
 }
 
 // A text into row r, if it is one.
-fn parse_at(n: usize, x: &mut [u64], z: &mut [u64], phases: &[u8], r: usize, s: &[u8]) -> bool
-    requires { ⌜ Sound n (mem (now x) (now z) (now phases)) ⌝ }
-    requires { ⌜ r < length (now phases) ⌝ }
-    ensures { λ ok. ⌜ SetParsed n (mem (now (x .entry)) (now (z .entry)) (now (phases .entry))) r (now (s .entry))
-        (mem (now (x .exit)) (now (z .exit)) (now (phases .entry))) ok ⌝ }
+fn parse_at(
+    n: usize,
+    m: usize,
+    x: &mut [u64],
+    z: &mut [u64],
+    phases: &[u64],
+    r: usize,
+    s: &[u8],
+) -> bool
+    requires { ⌜ Sound n (lent m x z phases) ⌝ }
+    requires { ⌜ r < m ⌝ }
+    ensures { λ ok. ⌜ SetParsed n (before m x z phases) r (now (s .entry))
+        (after m x z phases) ok ⌝ }
 {
-    let span = row_span(r, n, phases.len());
+    let span = row_span(r, n, m);
     let a = span.0;
     let e = span.1;
     parse_row(n, s, &mut x[a..e], &mut z[a..e])
@@ -187,20 +196,21 @@ fn parse_at(n: usize, x: &mut [u64], z: &mut [u64], phases: &[u8], r: usize, s: 
 // A row becomes the row whose text it is.
 pub fn parse_elem(
     n: usize,
+    m: usize,
     x: &mut [u64],
     z: &mut [u64],
-    phases: &[u8],
+    phases: &[u64],
     row: RowNumber,
     text: &[u8],
 ) -> Answer
-    ensures { λ a. ⌜ ParseElem n (mem (now (x .entry)) (now (z .entry)) (now (phases .entry))) (row .0) (now (text .entry))
-        (mem (now (x .exit)) (now (z .exit)) (now (phases .entry))) a ⌝ }
+    ensures { λ a. ⌜ ParseElem n (before m x z phases) (row .0) (now (text .entry))
+        (after m x z phases) a ⌝ }
 {
-    let f = cmpnt_list::row_fault(n, x, z, phases, phases.len() <= row.0);
+    let f = cmpnt_list::row_fault(n, m, x, z, phases, m <= row.0);
     if f != 0 {
         return Answer::Refused(f);
     }
-    if parse_at(n, x, z, phases, row.0, text) {
+    if parse_at(n, m, x, z, phases, row.0, text) {
         return Answer::Done;
     }
     Answer::Refused(13)

@@ -45,34 +45,36 @@ fn number(a: Answer) -> u8
 #[no_mangle]
 pub extern "C" fn speed_compatibility_matrix(
     n: usize,
+    m: usize,
     x: &[u64],
     z: &[u64],
-    phases: &[u8],
+    phases: &[u64],
     out: &mut [u64],
 ) -> u8
-    ensures { λ r. ⌜ Told (CompatibilityMatrix n (before x z phases) (now (out .entry)) (now (out .exit))) (Number r) ⌝ }
+    ensures { λ r. ⌜ Told (CompatibilityMatrix n (before m x z phases) (now (out .entry)) (now (out .exit))) (Number r) ⌝ }
 {
-    number(cmpnt_list::compatibility_matrix(n, x, z, phases, out))
+    number(cmpnt_list::compatibility_matrix(n, m, x, z, phases, out))
 }
 
 #[no_mangle]
 pub extern "C" fn speed_cmpnts_mul_pairwise(
     n: usize,
+    m: usize,
     lx: &[u64],
     lz: &[u64],
-    lp: &[u8],
+    lp: &[u64],
     rx: &[u64],
     rz: &[u64],
-    rp: &[u8],
+    rp: &[u64],
     ox: &mut [u64],
     oz: &mut [u64],
-    op: &mut [u8],
+    op: &mut [u64],
     clashes: &mut [u16],
 ) -> u8
-    ensures { λ r. ⌜ Told (MulPairwise n (before lx lz lp) (before rx rz rp) (before ox oz op) (after ox oz op) (now (clashes .entry))
+    ensures { λ r. ⌜ Told (MulPairwise n (before m lx lz lp) (before m rx rz rp) (before m ox oz op) (after m ox oz op) (now (clashes .entry))
         (now (clashes .exit))) (Number r) ⌝ }
 {
-    number(cmpnt_list::cmpnts_mul_pairwise(n, lx, lz, lp, rx, rz, rp, ox, oz, op, clashes))
+    number(cmpnt_list::cmpnts_mul_pairwise(n, m, lx, lz, lp, rx, rz, rp, ox, oz, op, clashes))
 }
 
 struct Turn {
@@ -99,16 +101,17 @@ fn phased(a: Phase, exponent: u8) -> Turn
 #[no_mangle]
 pub extern "C" fn speed_phase_of_mul_by_table(
     n: usize,
+    m: usize,
     x: &[u64],
     z: &[u64],
-    phases: &[u8],
+    phases: &[u64],
     a: usize,
     b: usize,
     exponent: &mut u8,
 ) -> u8
-    ensures { λ r. ⌜ Told (Exactly (phaseOfMul n (before x z phases) a b)) (Phased (now (exponent .entry)) (now (exponent .exit)) r) ⌝ }
+    ensures { λ r. ⌜ Told (Exactly (phaseOfMul n (before m x z phases) a b)) (Phased (now (exponent .entry)) (now (exponent .exit)) r) ⌝ }
 {
-    let e = cmpnt_list::phase_of_mul_by_table(n, x, z, phases, RowNumber(a), RowNumber(b));
+    let e = cmpnt_list::phase_of_mul_by_table(n, m, x, z, phases, RowNumber(a), RowNumber(b));
     let s = phased(e, *exponent);
     *exponent = s.exponent;
     s.number
@@ -117,47 +120,50 @@ pub extern "C" fn speed_phase_of_mul_by_table(
 #[no_mangle]
 pub extern "C" fn speed_conj_h(
     n: usize,
+    m: usize,
     x: &mut [u64],
     z: &mut [u64],
-    phases: &mut [u8],
+    phases: &mut [u64],
     q: usize,
 ) -> u8
-    ensures { λ r. ⌜ Told (Conjugates n (hOf q) (before x z phases) (after x z phases)) (Number r) ⌝ }
+    ensures { λ r. ⌜ Told (Conjugates n (hOf q) (before m x z phases) (after m x z phases)) (Number r) ⌝ }
 {
     let g = Gate::H(QubitNumber(q));
-    number(clifford::conj_clifford(n, x, z, phases, g))
+    number(clifford::conj_clifford(n, m, x, z, phases, g))
 }
 
 #[no_mangle]
 pub extern "C" fn speed_conj_s(
     n: usize,
+    m: usize,
     x: &mut [u64],
     z: &mut [u64],
-    phases: &mut [u8],
+    phases: &mut [u64],
     q: usize,
 ) -> u8
-    ensures { λ r. ⌜ Told (Conjugates n (sOf q) (before x z phases) (after x z phases)) (Number r) ⌝ }
+    ensures { λ r. ⌜ Told (Conjugates n (sOf q) (before m x z phases) (after m x z phases)) (Number r) ⌝ }
 {
     let g = Gate::S(QubitNumber(q));
-    number(clifford::conj_clifford(n, x, z, phases, g))
+    number(clifford::conj_clifford(n, m, x, z, phases, g))
 }
 
 #[no_mangle]
 pub extern "C" fn speed_conj_cx(
     n: usize,
+    m: usize,
     x: &mut [u64],
     z: &mut [u64],
-    phases: &mut [u8],
+    phases: &mut [u64],
     control: usize,
     target: usize,
 ) -> u8
-    ensures { λ r. ⌜ Told (Conjugates n (cxOf control target) (before x z phases) (after x z phases)) (Number r) ⌝ }
+    ensures { λ r. ⌜ Told (Conjugates n (cxOf control target) (before m x z phases) (after m x z phases)) (Number r) ⌝ }
 {
     let g = Gate::CX {
         control: QubitNumber(control),
         target: QubitNumber(target),
     };
-    number(clifford::conj_clifford(n, x, z, phases, g))
+    number(clifford::conj_clifford(n, m, x, z, phases, g))
 }
 
 struct Product {
@@ -181,17 +187,18 @@ fn multiplied(a: Clashes, clashes: u16) -> Product
 #[no_mangle]
 pub extern "C" fn speed_imul(
     n: usize,
+    m: usize,
     x: &mut [u64],
     z: &mut [u64],
-    phases: &mut [u8],
+    phases: &mut [u64],
     a: usize,
     b: usize,
     clashes: &mut u16,
 ) -> u8
-    ensures { λ r. ⌜ Told (Multiplies n a b (before x z phases) (after x z phases))
+    ensures { λ r. ⌜ Told (Multiplies n a b (before m x z phases) (after m x z phases))
         (Multiplied (now (clashes .entry)) (now (clashes .exit)) r) ⌝ }
 {
-    let d = terms::imul(n, x, z, phases, RowNumber(a), RowNumber(b));
+    let d = terms::imul(n, m, x, z, phases, RowNumber(a), RowNumber(b));
     let s = multiplied(d, *clashes);
     *clashes = s.clashes;
     s.number
@@ -229,17 +236,18 @@ fn counted(a: Canonicalized, entries: usize, t: usize) -> Counts
 #[no_mangle]
 pub extern "C" fn speed_canonicalize_all(
     n: usize,
+    m: usize,
     x: &mut [u64],
     z: &mut [u64],
-    phases: &mut [u8],
+    phases: &mut [u64],
     log: &mut [u16],
     entries: &mut usize,
     t: &mut usize,
 ) -> u8
-    ensures { λ r. ⌜ Told (ReducesAll n (before x z phases) (now (log .entry)) (after x z phases) (now (log .exit)))
+    ensures { λ r. ⌜ Told (ReducesAll n (before m x z phases) (now (log .entry)) (after m x z phases) (now (log .exit)))
         (Counted (now (entries .entry)) (now (t .entry)) (now (entries .exit)) (now (t .exit)) r) ⌝ }
 {
-    let a = terms::canonicalize_all(n, x, z, phases, log);
+    let a = terms::canonicalize_all(n, m, x, z, phases, log);
     let c = counted(a, *entries, *t);
     *entries = c.entries;
     *t = c.t;
@@ -276,22 +284,36 @@ fn placed(v: Verdict, place: usize) -> Place
 #[no_mangle]
 pub extern "C" fn speed_check(
     n: usize,
+    m: usize,
     x: &mut [u64],
     z: &mut [u64],
-    phases: &mut [u8],
+    phases: &mut [u64],
     order: &[u16],
     listed: &[u16],
     extra: &[u16],
     log: &[u16],
     cx: &[u64],
     cz: &[u64],
-    cphases: &[u8],
+    cphases: &[u64],
     place: &mut usize,
 ) -> u8
-    ensures { λ r. ⌜ Told (CheckedOn (task n (before x z phases) (now (order .entry)) (now (listed .entry)) (now (extra .entry)))
-        (claim (now (log .entry)) (before cx cz cphases)) (after x z phases)) (Placed (now (place .entry)) (now (place .exit)) r) ⌝ }
+    ensures { λ r. ⌜ Told (CheckedOn (task n (before m x z phases) (now (order .entry)) (now (listed .entry)) (now (extra .entry)))
+        (claim (now (log .entry)) (before m cx cz cphases)) (after m x z phases)) (Placed (now (place .entry)) (now (place .exit)) r) ⌝ }
 {
-    let v = replay::check(n, x, z, phases, order, listed, extra, log, cx, cz, cphases);
+    let v = replay::check(
+        n,
+        m,
+        x,
+        z,
+        phases,
+        order,
+        listed,
+        extra,
+        log,
+        cx,
+        cz,
+        cphases,
+    );
     let s = placed(v, *place);
     *place = s.place;
     s.number
@@ -314,18 +336,19 @@ fn walked(a: Undone, place: usize) -> Place
 #[no_mangle]
 pub extern "C" fn speed_undo(
     n: usize,
+    m: usize,
     x: &mut [u64],
     z: &mut [u64],
-    phases: &mut [u8],
+    phases: &mut [u64],
     listed: &[u16],
     extra: &[u16],
     log: &[u16],
     place: &mut usize,
 ) -> u8
-    ensures { λ r. ⌜ Told (Undoes n (now (listed .entry)) (now (extra .entry)) (now (log .entry)) (before x z phases) (after x z phases))
+    ensures { λ r. ⌜ Told (Undoes n (now (listed .entry)) (now (extra .entry)) (now (log .entry)) (before m x z phases) (after m x z phases))
         (WalkedTo (now (place .entry)) (now (place .exit)) r) ⌝ }
 {
-    let a = replay::undo::undo(n, x, z, phases, listed, extra, log);
+    let a = replay::undo::undo(n, m, x, z, phases, listed, extra, log);
     let s = walked(a, *place);
     *place = s.place;
     s.number

@@ -5,7 +5,7 @@ use mathlib.Core.Path.{refl, ap, _∙_}
 use Prim.Native.Nat.{ℕ}
 use Rattle.encoding.specs.declared.Answer.the-variants.{Refused}
 use Rattle.encoding.specs.Refusals.{doneOr, leftOr}
-use Rattle.encoding.specs.Set.{memOf, mem, rowsOf, count, lay}
+use Rattle.encoding.specs.Set.{memOf, rowsOf, count, lay}
 use Rattle.encoding.proofs.Faults.{refusing, passing}
 use Rattle.gates.specs.Gates.{conjRows}
 use Rattle.clifford.proofs.conj_clifford.Statement.{statement}
@@ -15,7 +15,7 @@ returns : tie.Need-returns
 returns c =
     let f = c .before in
     let a = f .before .before .before .before .before .before .before .args in
-    let M = mem (a .x .now) (a .z .now) (a .phases .now) in
+    let M = memOf (a .m) (a .x .now) (a .z .now) (a .phases .now) in
     let new = lay (a .n) (count M) (conjRows (a .n) (a .gate) (rowsOf (a .n) M)) in
     let e = f .gate-fault .ensures .0 in
     record { answer = refusing Refused doneOr (λ k. refl) e (c .if1 .taken); rows = refusing (λ (k : ℕ). M) (λ (k : ℕ). leftOr k M new) (λ k. refl) e (c .if1 .taken) }
@@ -29,11 +29,10 @@ returns-2 c =
     let i = w .before .before .before .before in
     let f = i .before in
     let a = f .before .before .before .before .before .before .before .args in
-    let M = mem (a .x .now) (a .z .now) (a .phases .now) in
+    let M = memOf (a .m) (a .x .now) (a .z .now) (a .phases .now) in
     let new = lay (a .n) (count M) (conjRows (a .n) (a .gate) (rowsOf (a .n) M)) in
     let e = f .gate-fault .ensures .0 in
-    let l = w .all-rows .last in
-    record { answer = passing doneOr e (i .if1 .left); rows = ap (λ (k : ℕ). memOf k (l .1 .1 .0) (l .1 .1 .1 .0) (l .1 .1 .1 .1 .0)) (w .all-rows .kept .1 .1 .1 .1 .0) ∙ w .all-rows .ensures ∙ passing (λ (k : ℕ). leftOr k M new) e (i .if1 .left) }
+    record { answer = passing doneOr e (i .if1 .left); rows = w .all-rows .ensures ∙ passing (λ (k : ℕ). leftOr k M new) e (i .if1 .left) }
 
 pub conj-clifford-spec : {M : Type 1} → statement M
 conj-clifford-spec =

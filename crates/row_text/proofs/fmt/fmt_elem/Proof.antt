@@ -1,26 +1,26 @@
 use Rattle.row_text.proofs.Kit.{ℕ, sym, _∙_, subst, leb-false, length, arith, needs}
-use Rattle.encoding.specs.Set.{mem, rowsOf}
+use Rattle.encoding.specs.Set.{memOf, rowsOf}
 use Rattle.row_text.specs.Calls.{orElse, tooShort, TextWritten}
 use Rattle.row_text.proofs.Putting.{fmt-refused}
 use Rattle.row_text.proofs.fmt.fmt_elem.Statement.{statement}
 use Rattle.row_text.proofs.fmt.fmt_elem.Tie as tie
 
 returns : tie.Need-returns
-returns c = let a = c .before .before .before .before .before .before .before .args in fmt-refused (tooShort (rowsOf (a .n) (mem (a .x .now) (a .z .now) (a .phases .now)) (a .row .0) .ps) (a .out .now)) _ (a .out .now) (c .before .row-fault .ensures .0) (c .if1 .taken)
+returns c = let a = c .before .before .before .before .before .before .before .args in fmt-refused (tooShort (rowsOf (a .n) (memOf (a .m) (a .x .now) (a .z .now) (a .phases .now)) (a .row .0) .ps) (a .out .now)) _ (a .out .now) (c .before .row-fault .ensures .0) (c .if1 .taken)
 
 fmt-at-requires : tie.Need-fmt-at-requires
 fmt-at-requires c κs =
     let a = c .before .before .before .before .before .before .before .before .args in
     let k = c .before .before .row-fault .ensures .1 (c .before .if1 .left) in
-    (k .ready, leb-false (length (a .phases .now)) (a .row .0) (k .small))
+    (k .ready, leb-false (a .m) (a .row .0) (k .small))
 
 returns-2 : tie.Need-returns-2
 returns-2 c =
     let a = c .before .before .before .before .before .before .before .before .before .before .before .args in
-    let ps = rowsOf (a .n) (mem (a .x .now) (a .z .now) (a .phases .now)) (a .row .0) .ps in
+    let ps = rowsOf (a .n) (memOf (a .m) (a .x .now) (a .z .now) (a .phases .now)) (a .row .0) .ps in
     let r = c .before .before .fmt-at in
     let f = c .before .before .before .before .before .row-fault in
-    subst (λ (k : ℕ). TextWritten (orElse k (tooShort ps (a .out .now))) ps (a .out .now) (r .last .1 .1 .1 .1 .1 .0) (r .result)) (sym (c .before .before .before .before .if1 .left) ∙ f .ensures .0) (r .ensures)
+    subst (λ (k : ℕ). TextWritten (orElse k (tooShort ps (a .out .now))) ps (a .out .now) (r .last .1 .1 .1 .1 .1 .1 .0) (r .result)) (sym (c .before .before .before .before .if1 .left) ∙ f .ensures .0) (r .ensures)
 
 pub fmt-elem-spec : {M : Type 1} → statement M
 fmt-elem-spec = tie.close (tie.spec (λ c κs. search needs) returns fmt-at-requires (λ c. search needs) returns-2)
