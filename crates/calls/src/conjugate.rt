@@ -75,9 +75,10 @@ pub(crate) fn gate(
     s: &[u8],
     at: usize,
     n: usize,
+    m: usize,
     x: &mut [u64],
     z: &mut [u64],
-    p: &mut [u8],
+    p: &mut [u64],
     out: &mut [u8],
     r: Put,
 ) -> Put {
@@ -86,6 +87,6 @@ pub(crate) fn gate(
         return say::bad(out, r);
     }
     let by = g.gate;
-    let a = clifford::conj_clifford(n, x, z, p, by);
+    let a = clifford::conj_clifford(n, m, x, z, p, by);
     say::changed(out, r, a, x, z, p)
 }

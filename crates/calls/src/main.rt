@@ -20,6 +20,9 @@ use mat_elem::states::MAX_VECTORS;
 // stack that the system gives it. The words are enough for a word in each of more rows than the limit, or for 70 of the longest rows.
 pub(crate) const ROWS: usize = MAX_ROWS + 64;
 
+// The phase words of so many rows.
+pub(crate) const PHASES: usize = ROWS / 32;
+
 pub(crate) const WORDS: usize = MAX_ROWS + 512;
 
 pub(crate) const LIST: usize = 2 * MAX_QUBITS + 64;
@@ -36,7 +39,7 @@ pub(crate) const TEXT: usize = 24000;
 // The bytes of the longest line, its end among them.
 pub(crate) const LINE: usize = 3500000;
 
-// The longest answer is that of a reduction: 70,000 entries of at most 10 bytes, 9,216 words of 17, 4,160 bytes of 4.
+// The longest answer is that of a reduction: 70,000 entries of at most 10 bytes, 9,346 words of 17.
 pub(crate) const ANSWER: usize = 900000;
 
 // The long arrays are made here, once, and lent; those of sets, lists and logs are made for the line that has them.

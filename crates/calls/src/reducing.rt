@@ -3,7 +3,7 @@ ghost use Prim.Native.Nat.{_≤_};
 ghost use lib.ListN.{length};
 use crate::LIST;
 use crate::LOG;
-use crate::ROWS;
+use crate::PHASES;
 use crate::WORDS;
 use forms::read;
 use forms::read::Lists;
@@ -13,9 +13,10 @@ use text::Put;
 
 fn reduced(
     n: usize,
+    m: usize,
     x: &mut [u64],
     z: &mut [u64],
-    p: &mut [u8],
+    p: &mut [u64],
     order: &[u16],
     listed: &[u16],
     extra: &[u16],
@@ -23,16 +24,17 @@ fn reduced(
     out: &mut [u8],
     r: Put,
 ) -> Put {
-    let a = terms::canonicalize(n, x, z, p, order, listed, extra, log);
+    let a = terms::canonicalize(n, m, x, z, p, order, listed, extra, log);
     say::reduced(out, r, a, log, x, z, p)
 }
 
 // On the parts that the line filled.
 fn lent(
     n: usize,
+    m: usize,
     x: &mut [u64],
     z: &mut [u64],
-    p: &mut [u8],
+    p: &mut [u64],
     l: Lists,
     order: &[u16],
     listed: &[u16],
@@ -51,6 +53,7 @@ fn lent(
     let g = u as usize;
     reduced(
         n,
+        m,
         x,
         z,
         p,
@@ -67,9 +70,10 @@ fn ordered(
     s: &[u8],
     at: usize,
     n: usize,
+    m: usize,
     x: &mut [u64],
     z: &mut [u64],
-    p: &mut [u8],
+    p: &mut [u64],
     order: &mut [u16; LIST],
     listed: &mut [u16; LIST],
     extra: &mut [u16; LIST],
@@ -82,16 +86,17 @@ fn ordered(
     if !(l.ok & (u.ok & (u.at == s.len()))) {
         return say::bad(out, r);
     }
-    lent(n, x, z, p, l, order, listed, extra, u.value, log, out, r)
+    lent(n, m, x, z, p, l, order, listed, extra, u.value, log, out, r)
 }
 
 pub(crate) fn reduce(
     s: &[u8],
     at: usize,
     n: usize,
+    m: usize,
     x: &mut [u64],
     z: &mut [u64],
-    p: &mut [u8],
+    p: &mut [u64],
     out: &mut [u8],
     r: Put,
 ) -> Put {
@@ -103,6 +108,7 @@ pub(crate) fn reduce(
         s,
         at,
         n,
+        m,
         x,
         z,
         p,
@@ -119,14 +125,15 @@ pub(crate) fn reduce(
 
 fn reduced_all(
     n: usize,
+    m: usize,
     x: &mut [u64],
     z: &mut [u64],
-    p: &mut [u8],
+    p: &mut [u64],
     log: &mut [u16],
     out: &mut [u8],
     r: Put,
 ) -> Put {
-    let a = terms::canonicalize_all(n, x, z, p, log);
+    let a = terms::canonicalize_all(n, m, x, z, p, log);
     say::reduced(out, r, a, log, x, z, p)
 }
 
@@ -134,9 +141,10 @@ fn logged(
     s: &[u8],
     at: usize,
     n: usize,
+    m: usize,
     x: &mut [u64],
     z: &mut [u64],
-    p: &mut [u8],
+    p: &mut [u64],
     log: &mut [u16],
     out: &mut [u8],
     r: Put,
@@ -146,50 +154,53 @@ fn logged(
         return say::bad(out, r);
     }
     let g = u.value as usize;
-    reduced_all(n, x, z, p, &mut log[0..g], out, r)
+    reduced_all(n, m, x, z, p, &mut log[0..g], out, r)
 }
 
 pub(crate) fn reduce_all(
     s: &[u8],
     at: usize,
     n: usize,
+    m: usize,
     x: &mut [u64],
     z: &mut [u64],
-    p: &mut [u8],
+    p: &mut [u64],
     out: &mut [u8],
     r: Put,
 ) -> Put {
     let mut log = [0u16; LOG];
-    logged(s, at, n, x, z, p, &mut log, out, r)
+    logged(s, at, n, m, x, z, p, &mut log, out, r)
 }
 
 // ---- the checker
 
 fn checked(
     n: usize,
+    m: usize,
     x: &mut [u64],
     z: &mut [u64],
-    p: &mut [u8],
+    p: &mut [u64],
     order: &[u16],
     listed: &[u16],
     extra: &[u16],
     log: &[u16],
     x2: &[u64],
     z2: &[u64],
-    p2: &[u8],
+    p2: &[u64],
     out: &mut [u8],
     r: Put,
 ) -> Put {
-    let a = replay::check(n, x, z, p, order, listed, extra, log, x2, z2, p2);
+    let a = replay::check(n, m, x, z, p, order, listed, extra, log, x2, z2, p2);
     say::checked(out, r, a, x, z, p)
 }
 
 // On the parts that the line filled.
 fn claimed(
     n: usize,
+    m: usize,
     x: &mut [u64],
     z: &mut [u64],
-    p: &mut [u8],
+    p: &mut [u64],
     l: Lists,
     order: &[u16],
     listed: &[u16],
@@ -199,7 +210,7 @@ fn claimed(
     t: Set,
     x2: &[u64],
     z2: &[u64],
-    p2: &[u8],
+    p2: &[u64],
     out: &mut [u8],
     r: Put,
 ) -> Put
@@ -215,6 +226,7 @@ fn claimed(
     let k2 = t.p;
     checked(
         n,
+        m,
         x,
         z,
         p,
@@ -234,16 +246,17 @@ fn replayed(
     s: &[u8],
     at: usize,
     n: usize,
+    m: usize,
     x: &mut [u64],
     z: &mut [u64],
-    p: &mut [u8],
+    p: &mut [u64],
     order: &mut [u16; LIST],
     listed: &mut [u16; LIST],
     extra: &mut [u16; LIST],
     log: &mut [u16; LOG],
     x2: &mut [u64; WORDS],
     z2: &mut [u64; WORDS],
-    p2: &mut [u8; ROWS],
+    p2: &mut [u64; PHASES],
     out: &mut [u8],
     r: Put,
 ) -> Put {
@@ -255,6 +268,7 @@ fn replayed(
     }
     claimed(
         n,
+        m,
         x,
         z,
         p,
@@ -277,9 +291,10 @@ pub(crate) fn check(
     s: &[u8],
     at: usize,
     n: usize,
+    m: usize,
     x: &mut [u64],
     z: &mut [u64],
-    p: &mut [u8],
+    p: &mut [u64],
     out: &mut [u8],
     r: Put,
 ) -> Put {
@@ -289,11 +304,12 @@ pub(crate) fn check(
     let mut log = [0u16; LOG];
     let mut x2 = [0u64; WORDS];
     let mut z2 = [0u64; WORDS];
-    let mut p2 = [0u8; ROWS];
+    let mut p2 = [0u64; PHASES];
     replayed(
         s,
         at,
         n,
+        m,
         x,
         z,
         p,
@@ -313,25 +329,27 @@ pub(crate) fn check(
 
 fn undone(
     n: usize,
+    m: usize,
     x: &mut [u64],
     z: &mut [u64],
-    p: &mut [u8],
+    p: &mut [u64],
     listed: &[u16],
     extra: &[u16],
     log: &[u16],
     out: &mut [u8],
     r: Put,
 ) -> Put {
-    let a = replay::undo::undo(n, x, z, p, listed, extra, log);
+    let a = replay::undo::undo(n, m, x, z, p, listed, extra, log);
     say::undone(out, r, a, x, z, p)
 }
 
 // On the parts that the line filled.
 fn walked(
     n: usize,
+    m: usize,
     x: &mut [u64],
     z: &mut [u64],
-    p: &mut [u8],
+    p: &mut [u64],
     e: usize,
     listed: &[u16],
     f: usize,
@@ -343,16 +361,28 @@ fn walked(
 ) -> Put
     requires { ⌜ (e ≤ length (now listed)) × (f ≤ length (now extra)) × (g ≤ length (now log)) ⌝ }
 {
-    undone(n, x, z, p, &listed[0..e], &extra[0..f], &log[0..g], out, r)
+    undone(
+        n,
+        m,
+        x,
+        z,
+        p,
+        &listed[0..e],
+        &extra[0..f],
+        &log[0..g],
+        out,
+        r,
+    )
 }
 
 fn led_back(
     s: &[u8],
     at: usize,
     n: usize,
+    m: usize,
     x: &mut [u64],
     z: &mut [u64],
-    p: &mut [u8],
+    p: &mut [u64],
     listed: &mut [u16; LIST],
     extra: &mut [u16; LIST],
     log: &mut [u16; LOG],
@@ -367,6 +397,7 @@ fn led_back(
     }
     walked(
         n,
+        m,
         x,
         z,
         p,
@@ -385,14 +416,28 @@ pub(crate) fn undo(
     s: &[u8],
     at: usize,
     n: usize,
+    m: usize,
     x: &mut [u64],
     z: &mut [u64],
-    p: &mut [u8],
+    p: &mut [u64],
     out: &mut [u8],
     r: Put,
 ) -> Put {
     let mut listed = [0u16; LIST];
     let mut extra = [0u16; LIST];
     let mut log = [0u16; LOG];
-    led_back(s, at, n, x, z, p, &mut listed, &mut extra, &mut log, out, r)
+    led_back(
+        s,
+        at,
+        n,
+        m,
+        x,
+        z,
+        p,
+        &mut listed,
+        &mut extra,
+        &mut log,
+        out,
+        r,
+    )
 }

@@ -12,9 +12,10 @@ pub(crate) fn get(
     s: &[u8],
     at: usize,
     n: usize,
+    m: usize,
     x: &[u64],
     z: &[u64],
-    p: &[u8],
+    p: &[u64],
     out: &mut [u8],
     r: Put,
 ) -> Put {
@@ -22,7 +23,7 @@ pub(crate) fn get(
     if !(q.ok & (q.at == s.len())) {
         return say::bad(out, r);
     }
-    let a = cmpnt_list::get_qubit(n, x, z, p, RowNumber(q.a), QubitNumber(q.b));
+    let a = cmpnt_list::get_qubit(n, m, x, z, p, RowNumber(q.a), QubitNumber(q.b));
     say::got(out, r, a)
 }
 
@@ -30,9 +31,10 @@ pub(crate) fn phase(
     s: &[u8],
     at: usize,
     n: usize,
+    m: usize,
     x: &[u64],
     z: &[u64],
-    p: &[u8],
+    p: &[u64],
     out: &mut [u8],
     r: Put,
 ) -> Put {
@@ -40,7 +42,7 @@ pub(crate) fn phase(
     if !(q.ok & (q.at == s.len())) {
         return say::bad(out, r);
     }
-    let a = cmpnt_list::phase_of_mul(n, x, z, p, RowNumber(q.a), RowNumber(q.b));
+    let a = cmpnt_list::phase_of_mul(n, m, x, z, p, RowNumber(q.a), RowNumber(q.b));
     say::phase(out, r, a)
 }
 
@@ -49,9 +51,10 @@ pub(crate) fn phase_by_table(
     s: &[u8],
     at: usize,
     n: usize,
+    m: usize,
     x: &[u64],
     z: &[u64],
-    p: &[u8],
+    p: &[u64],
     out: &mut [u8],
     r: Put,
 ) -> Put {
@@ -59,7 +62,7 @@ pub(crate) fn phase_by_table(
     if !(q.ok & (q.at == s.len())) {
         return say::bad(out, r);
     }
-    let a = cmpnt_list::phase_of_mul_by_table(n, x, z, p, RowNumber(q.a), RowNumber(q.b));
+    let a = cmpnt_list::phase_of_mul_by_table(n, m, x, z, p, RowNumber(q.a), RowNumber(q.b));
     say::phase(out, r, a)
 }
 
@@ -67,9 +70,10 @@ pub(crate) fn comm(
     s: &[u8],
     at: usize,
     n: usize,
+    m: usize,
     x: &[u64],
     z: &[u64],
-    p: &[u8],
+    p: &[u64],
     out: &mut [u8],
     r: Put,
 ) -> Put {
@@ -77,7 +81,7 @@ pub(crate) fn comm(
     if !(q.ok & (q.at == s.len())) {
         return say::bad(out, r);
     }
-    let a = cmpnt_list::commutes_with(n, x, z, p, RowNumber(q.a), RowNumber(q.b));
+    let a = cmpnt_list::commutes_with(n, m, x, z, p, RowNumber(q.a), RowNumber(q.b));
     say::truth(out, r, a)
 }
 
@@ -85,9 +89,10 @@ pub(crate) fn central(
     s: &[u8],
     at: usize,
     n: usize,
+    m: usize,
     x: &[u64],
     z: &[u64],
-    p: &[u8],
+    p: &[u64],
     out: &mut [u8],
     r: Put,
 ) -> Put {
@@ -95,16 +100,25 @@ pub(crate) fn central(
     if !(q.ok & (q.at == s.len())) {
         return say::bad(out, r);
     }
-    let a = cmpnt_list::belongs_to_centralizer(n, x, z, p, RowNumber(q.value as usize));
+    let a = cmpnt_list::belongs_to_centralizer(n, m, x, z, p, RowNumber(q.value as usize));
     say::truth(out, r, a)
 }
 
 // The four counts of a row.
-fn counted(n: usize, x: &[u64], z: &[u64], p: &[u8], row: usize, out: &mut [u8], r: Put) -> Put {
-    let ni = cmpnt_list::count(n, x, z, p, RowNumber(row), PauliMatrix::I);
-    let nx = cmpnt_list::count(n, x, z, p, RowNumber(row), PauliMatrix::X);
-    let ny = cmpnt_list::count(n, x, z, p, RowNumber(row), PauliMatrix::Y);
-    let nz = cmpnt_list::count(n, x, z, p, RowNumber(row), PauliMatrix::Z);
+fn counted(
+    n: usize,
+    m: usize,
+    x: &[u64],
+    z: &[u64],
+    p: &[u64],
+    row: usize,
+    out: &mut [u8],
+    r: Put,
+) -> Put {
+    let ni = cmpnt_list::count(n, m, x, z, p, RowNumber(row), PauliMatrix::I);
+    let nx = cmpnt_list::count(n, m, x, z, p, RowNumber(row), PauliMatrix::X);
+    let ny = cmpnt_list::count(n, m, x, z, p, RowNumber(row), PauliMatrix::Y);
+    let nz = cmpnt_list::count(n, m, x, z, p, RowNumber(row), PauliMatrix::Z);
     say::counts(out, r, ni, nx, ny, nz)
 }
 
@@ -112,9 +126,10 @@ pub(crate) fn count(
     s: &[u8],
     at: usize,
     n: usize,
+    m: usize,
     x: &[u64],
     z: &[u64],
-    p: &[u8],
+    p: &[u64],
     out: &mut [u8],
     r: Put,
 ) -> Put {
@@ -122,7 +137,7 @@ pub(crate) fn count(
     if !(q.ok & (q.at == s.len())) {
         return say::bad(out, r);
     }
-    counted(n, x, z, p, q.value as usize, out, r)
+    counted(n, m, x, z, p, q.value as usize, out, r)
 }
 
 // ---- what is lent to be changed
@@ -131,9 +146,10 @@ pub(crate) fn imul(
     s: &[u8],
     at: usize,
     n: usize,
+    m: usize,
     x: &mut [u64],
     z: &mut [u64],
-    p: &mut [u8],
+    p: &mut [u64],
     out: &mut [u8],
     r: Put,
 ) -> Put {
@@ -141,7 +157,7 @@ pub(crate) fn imul(
     if !(q.ok & (q.at == s.len())) {
         return say::bad(out, r);
     }
-    let c = terms::imul(n, x, z, p, RowNumber(q.a), RowNumber(q.b));
+    let c = terms::imul(n, m, x, z, p, RowNumber(q.a), RowNumber(q.b));
     say::product(out, r, c, x, z, p)
 }
 
@@ -149,9 +165,10 @@ pub(crate) fn set(
     s: &[u8],
     at: usize,
     n: usize,
+    m: usize,
     x: &mut [u64],
     z: &mut [u64],
-    p: &[u8],
+    p: &[u64],
     out: &mut [u8],
     r: Put,
 ) -> Put {
@@ -161,7 +178,7 @@ pub(crate) fn set(
         return say::bad(out, r);
     }
     let to = l.pauli;
-    let a = cmpnt_list::set_qubit(n, x, z, p, RowNumber(q.a), QubitNumber(q.b), to);
+    let a = cmpnt_list::set_qubit(n, m, x, z, p, RowNumber(q.a), QubitNumber(q.b), to);
     say::changed(out, r, a, x, z, p)
 }
 
@@ -171,9 +188,10 @@ fn acted(
     s: &[u8],
     at: usize,
     n: usize,
+    m: usize,
     x: &[u64],
     z: &[u64],
-    p: &[u8],
+    p: &[u64],
     state: &mut [u64],
     out: &mut [u8],
     r: Put,
@@ -184,20 +202,21 @@ fn acted(
         return say::bad(out, r);
     }
     let w = l.count;
-    on_state(n, x, z, p, q.value as usize, &mut state[0..w], out, r)
+    on_state(n, m, x, z, p, q.value as usize, &mut state[0..w], out, r)
 }
 
 fn on_state(
     n: usize,
+    m: usize,
     x: &[u64],
     z: &[u64],
-    p: &[u8],
+    p: &[u64],
     row: usize,
     state: &mut [u64],
     out: &mut [u8],
     r: Put,
 ) -> Put {
-    let a = cmpnt_list::imul_state(n, x, z, p, RowNumber(row), state);
+    let a = cmpnt_list::imul_state(n, m, x, z, p, RowNumber(row), state);
     say::acted(out, r, a, state)
 }
 
@@ -205,58 +224,62 @@ pub(crate) fn act(
     s: &[u8],
     at: usize,
     n: usize,
+    m: usize,
     x: &[u64],
     z: &[u64],
-    p: &[u8],
+    p: &[u64],
     out: &mut [u8],
     r: Put,
 ) -> Put {
     let mut state = [0u64; WORDS];
-    acted(s, at, n, x, z, p, &mut state, out, r)
+    acted(s, at, n, m, x, z, p, &mut state, out, r)
 }
 
 fn compared(
     s: &[u8],
     at: usize,
     n: usize,
+    m: usize,
     x: &[u64],
     z: &[u64],
-    p: &[u8],
-    m: &mut [u64],
+    p: &[u64],
+    v: &mut [u64],
     out: &mut [u8],
     r: Put,
 ) -> Put {
-    let q = number_field(s, at, m.len() as u64);
+    let q = number_field(s, at, v.len() as u64);
     if !(q.ok & (q.at == s.len())) {
         return say::bad(out, r);
     }
     let w = q.value as usize;
-    into_matrix(n, x, z, p, &mut m[0..w], out, r)
+    into_matrix(n, m, x, z, p, &mut v[0..w], out, r)
 }
 
 fn into_matrix(
     n: usize,
+    m: usize,
     x: &[u64],
     z: &[u64],
-    p: &[u8],
-    m: &mut [u64],
+    p: &[u64],
+    v: &mut [u64],
     out: &mut [u8],
     r: Put,
 ) -> Put {
-    let a = cmpnt_list::compatibility_matrix(n, x, z, p, m);
-    say::matrix(out, r, a, m)
+    let a = cmpnt_list::compatibility_matrix(n, m, x, z, p, v);
+    say::matrix(out, r, a, v)
 }
 
 pub(crate) fn matrix(
     s: &[u8],
     at: usize,
     n: usize,
+    m: usize,
     x: &[u64],
     z: &[u64],
-    p: &[u8],
+    p: &[u64],
     out: &mut [u8],
     r: Put,
 ) -> Put {
-    let mut m = [0u64; WORDS];
-    compared(s, at, n, x, z, p, &mut m, out, r)
+    let mut v = [0u64; WORDS];
+    compared(s, at, n, m, x, z, p, &mut v, out, r)
 }

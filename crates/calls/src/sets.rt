@@ -1,6 +1,6 @@
 // The calls on a set. Its fields are read and its parts lent here, for all of them: what a call has besides stands behind. Each group adds the
 // answer to a line that names one of its own, and nothing to another.
-use crate::ROWS;
+use crate::PHASES;
 use crate::WORDS;
 use crate::conjugate;
 use crate::naming::is;
@@ -18,29 +18,30 @@ fn reading(
     end: usize,
     at: usize,
     n: usize,
+    m: usize,
     x: &[u64],
     z: &[u64],
-    p: &[u8],
+    p: &[u64],
     out: &mut [u8],
     r: Put,
 ) -> Put {
     if is(s, end, b"get") {
-        return rows::get(s, at, n, x, z, p, out, r);
+        return rows::get(s, at, n, m, x, z, p, out, r);
     }
     if is(s, end, b"phase") {
-        return rows::phase(s, at, n, x, z, p, out, r);
+        return rows::phase(s, at, n, m, x, z, p, out, r);
     }
     if is(s, end, b"phaset") {
-        return rows::phase_by_table(s, at, n, x, z, p, out, r);
+        return rows::phase_by_table(s, at, n, m, x, z, p, out, r);
     }
     if is(s, end, b"comm") {
-        return rows::comm(s, at, n, x, z, p, out, r);
+        return rows::comm(s, at, n, m, x, z, p, out, r);
     }
     if is(s, end, b"count") {
-        return rows::count(s, at, n, x, z, p, out, r);
+        return rows::count(s, at, n, m, x, z, p, out, r);
     }
     if is(s, end, b"central") {
-        return rows::central(s, at, n, x, z, p, out, r);
+        return rows::central(s, at, n, m, x, z, p, out, r);
     }
     r
 }
@@ -51,23 +52,24 @@ fn lending(
     end: usize,
     at: usize,
     n: usize,
+    m: usize,
     x: &[u64],
     z: &[u64],
-    p: &[u8],
+    p: &[u64],
     out: &mut [u8],
     r: Put,
 ) -> Put {
     if is(s, end, b"act") {
-        return rows::act(s, at, n, x, z, p, out, r);
+        return rows::act(s, at, n, m, x, z, p, out, r);
     }
     if is(s, end, b"matrix") {
-        return rows::matrix(s, at, n, x, z, p, out, r);
+        return rows::matrix(s, at, n, m, x, z, p, out, r);
     }
     if is(s, end, b"write") {
-        return texts::write(s, at, n, x, z, p, out, r);
+        return texts::write(s, at, n, m, x, z, p, out, r);
     }
     if is(s, end, b"pair") {
-        return pairwise::pair(s, at, n, x, z, p, out, r);
+        return pairwise::pair(s, at, n, m, x, z, p, out, r);
     }
     r
 }
@@ -78,26 +80,27 @@ fn changing(
     end: usize,
     at: usize,
     n: usize,
+    m: usize,
     x: &mut [u64],
     z: &mut [u64],
-    p: &mut [u8],
+    p: &mut [u64],
     out: &mut [u8],
     r: Put,
 ) -> Put {
     if is(s, end, b"imul") {
-        return rows::imul(s, at, n, x, z, p, out, r);
+        return rows::imul(s, at, n, m, x, z, p, out, r);
     }
     if is(s, end, b"set") {
-        return rows::set(s, at, n, x, z, p, out, r);
+        return rows::set(s, at, n, m, x, z, p, out, r);
     }
     if is(s, end, b"gate") {
-        return conjugate::gate(s, at, n, x, z, p, out, r);
+        return conjugate::gate(s, at, n, m, x, z, p, out, r);
     }
     if is(s, end, b"read") {
-        return texts::read_text(s, at, n, x, z, p, out, r);
+        return texts::read_text(s, at, n, m, x, z, p, out, r);
     }
     if is(s, end, b"readx") {
-        return texts::read_bytes(s, at, n, x, z, p, out, r);
+        return texts::read_bytes(s, at, n, m, x, z, p, out, r);
     }
     r
 }
@@ -108,23 +111,24 @@ fn reductions(
     end: usize,
     at: usize,
     n: usize,
+    m: usize,
     x: &mut [u64],
     z: &mut [u64],
-    p: &mut [u8],
+    p: &mut [u64],
     out: &mut [u8],
     r: Put,
 ) -> Put {
     if is(s, end, b"reduce") {
-        return reducing::reduce(s, at, n, x, z, p, out, r);
+        return reducing::reduce(s, at, n, m, x, z, p, out, r);
     }
     if is(s, end, b"reduceall") {
-        return reducing::reduce_all(s, at, n, x, z, p, out, r);
+        return reducing::reduce_all(s, at, n, m, x, z, p, out, r);
     }
     if is(s, end, b"check") {
-        return reducing::check(s, at, n, x, z, p, out, r);
+        return reducing::check(s, at, n, m, x, z, p, out, r);
     }
     if is(s, end, b"undo") {
-        return reducing::undo(s, at, n, x, z, p, out, r);
+        return reducing::undo(s, at, n, m, x, z, p, out, r);
     }
     r
 }
@@ -135,14 +139,15 @@ fn of_set(
     end: usize,
     at: usize,
     n: usize,
+    m: usize,
     x: &[u64],
     z: &[u64],
-    p: &[u8],
+    p: &[u64],
     out: &mut [u8],
     r: Put,
 ) -> Put {
-    let r = reading(s, end, at, n, x, z, p, out, r);
-    lending(s, end, at, n, x, z, p, out, r)
+    let r = reading(s, end, at, n, m, x, z, p, out, r);
+    lending(s, end, at, n, m, x, z, p, out, r)
 }
 
 fn on_set(
@@ -150,14 +155,15 @@ fn on_set(
     end: usize,
     at: usize,
     n: usize,
+    m: usize,
     x: &mut [u64],
     z: &mut [u64],
-    p: &mut [u8],
+    p: &mut [u64],
     out: &mut [u8],
     r: Put,
 ) -> Put {
-    let r = changing(s, end, at, n, x, z, p, out, r);
-    reductions(s, end, at, n, x, z, p, out, r)
+    let r = changing(s, end, at, n, m, x, z, p, out, r);
+    reductions(s, end, at, n, m, x, z, p, out, r)
 }
 
 fn called(
@@ -165,14 +171,15 @@ fn called(
     end: usize,
     at: usize,
     n: usize,
+    m: usize,
     x: &mut [u64],
     z: &mut [u64],
-    p: &mut [u8],
+    p: &mut [u64],
     out: &mut [u8],
     r: Put,
 ) -> Put {
-    let r = of_set(s, end, at, n, x, z, p, out, r);
-    on_set(s, end, at, n, x, z, p, out, r)
+    let r = of_set(s, end, at, n, m, x, z, p, out, r);
+    on_set(s, end, at, n, m, x, z, p, out, r)
 }
 
 // On the parts that the line filled.
@@ -181,7 +188,7 @@ fn filled(
     end: usize,
     x: &mut [u64],
     z: &mut [u64],
-    p: &mut [u8],
+    p: &mut [u64],
     out: &mut [u8],
     r: Put,
 ) -> Put {
@@ -197,6 +204,7 @@ fn filled(
         end,
         q.at,
         q.n,
+        q.m,
         &mut x[0..i],
         &mut z[0..j],
         &mut p[0..k],
@@ -209,6 +217,6 @@ fn filled(
 pub(crate) fn answer(s: &[u8], end: usize, out: &mut [u8], r: Put) -> Put {
     let mut x = [0u64; WORDS];
     let mut z = [0u64; WORDS];
-    let mut p = [0u8; ROWS];
+    let mut p = [0u64; PHASES];
     filled(s, end, &mut x, &mut z, &mut p, out, r)
 }

@@ -11,9 +11,10 @@ fn written(
     s: &[u8],
     at: usize,
     n: usize,
+    m: usize,
     x: &[u64],
     z: &[u64],
-    p: &[u8],
+    p: &[u64],
     b: &mut [u8],
     out: &mut [u8],
     r: Put,
@@ -26,20 +27,21 @@ fn written(
     if e > b.len() {
         return say::bad(out, r);
     }
-    into_bytes(n, x, z, p, q.a, &mut b[0..e], out, r)
+    into_bytes(n, m, x, z, p, q.a, &mut b[0..e], out, r)
 }
 
 fn into_bytes(
     n: usize,
+    m: usize,
     x: &[u64],
     z: &[u64],
-    p: &[u8],
+    p: &[u64],
     row: usize,
     b: &mut [u8],
     out: &mut [u8],
     r: Put,
 ) -> Put {
-    let a = row_text::fmt_elem(n, x, z, p, RowNumber(row), b);
+    let a = row_text::fmt_elem(n, m, x, z, p, RowNumber(row), b);
     say::written(out, r, a, b)
 }
 
@@ -47,27 +49,29 @@ pub(crate) fn write(
     s: &[u8],
     at: usize,
     n: usize,
+    m: usize,
     x: &[u64],
     z: &[u64],
-    p: &[u8],
+    p: &[u64],
     out: &mut [u8],
     r: Put,
 ) -> Put {
     let mut b = [0u8; TEXT];
-    written(s, at, n, x, z, p, &mut b, out, r)
+    written(s, at, n, m, x, z, p, &mut b, out, r)
 }
 
 fn parsed(
     n: usize,
+    m: usize,
     x: &mut [u64],
     z: &mut [u64],
-    p: &[u8],
+    p: &[u64],
     row: usize,
     t: &[u8],
     out: &mut [u8],
     r: Put,
 ) -> Put {
-    let a = row_text::parse_elem(n, x, z, p, RowNumber(row), t);
+    let a = row_text::parse_elem(n, m, x, z, p, RowNumber(row), t);
     say::changed(out, r, a, x, z, p)
 }
 
@@ -75,9 +79,10 @@ pub(crate) fn read_text(
     s: &[u8],
     at: usize,
     n: usize,
+    m: usize,
     x: &mut [u64],
     z: &mut [u64],
-    p: &[u8],
+    p: &[u64],
     out: &mut [u8],
     r: Put,
 ) -> Put {
@@ -88,16 +93,17 @@ pub(crate) fn read_text(
     }
     let a = t.from;
     let e = s.len();
-    parsed(n, x, z, p, q.value as usize, &s[a..e], out, r)
+    parsed(n, m, x, z, p, q.value as usize, &s[a..e], out, r)
 }
 
 fn taken(
     s: &[u8],
     at: usize,
     n: usize,
+    m: usize,
     x: &mut [u64],
     z: &mut [u64],
-    p: &[u8],
+    p: &[u64],
     b: &mut [u8],
     out: &mut [u8],
     r: Put,
@@ -108,19 +114,20 @@ fn taken(
         return say::bad(out, r);
     }
     let e = l.count;
-    parsed(n, x, z, p, q.value as usize, &b[0..e], out, r)
+    parsed(n, m, x, z, p, q.value as usize, &b[0..e], out, r)
 }
 
 pub(crate) fn read_bytes(
     s: &[u8],
     at: usize,
     n: usize,
+    m: usize,
     x: &mut [u64],
     z: &mut [u64],
-    p: &[u8],
+    p: &[u64],
     out: &mut [u8],
     r: Put,
 ) -> Put {
     let mut b = [0u8; TEXT];
-    taken(s, at, n, x, z, p, &mut b, out, r)
+    taken(s, at, n, m, x, z, p, &mut b, out, r)
 }

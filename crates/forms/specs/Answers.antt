@@ -72,7 +72,7 @@ abbrev pub numbersText : List ℕ → List ℕ
 numbersText xs = (32 ∷ []) ++ listed (numeral 10) xs
 
 abbrev pub setText : List ℕ → List ℕ → List ℕ → List ℕ
-setText x z p = wordsText x ++ (wordsText z ++ numbersText p)
+setText x z p = wordsText x ++ (wordsText z ++ wordsText p)
 
 abbrev pub end : List ℕ
 end = 10 ∷ []

@@ -19,9 +19,9 @@ pub record SetRead (s : List ℕ) (at : ℕ) (x x′ z z′ p p′ : List ℕ) (
   pub room-z : r .z ≤ length z′
   pub room-p : r .p ≤ length p′
 
--- n X Z P
+-- n m X Z P
 pub record RowsRead (s : List ℕ) (at : ℕ) (x x′ z z′ p p′ : List ℕ) (r : Rows) : Type 0 where
-  pub is : Reads (fields (rowsKinds (length x) (length z) (length p))) s at (r .ok) (r .n, (take (r .x) x′, (take (r .z) z′, (take (r .p) p′, tt)))) (r .at)
+  pub is : Reads (fields (rowsKinds (length x) (length z) (length p))) s at (r .ok) (r .n, (r .m, (take (r .x) x′, (take (r .z) z′, (take (r .p) p′, tt))))) (r .at)
   pub room-x : r .x ≤ length x′
   pub room-z : r .z ≤ length z′
   pub room-p : r .p ≤ length p′

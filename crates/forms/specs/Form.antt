@@ -19,11 +19,11 @@ any = one 18446744073709551615
 
 -- X Z P
 abbrev pub setKinds : ℕ → ℕ → ℕ → List Kind
-setKinds i j k = words i ∷ words j ∷ numbers 255 k ∷ []
+setKinds i j k = words i ∷ words j ∷ words k ∷ []
 
--- n X Z P
+-- n m X Z P
 abbrev pub rowsKinds : ℕ → ℕ → ℕ → List Kind
-rowsKinds i j k = any ∷ setKinds i j k
+rowsKinds i j k = any ∷ any ∷ setKinds i j k
 
 -- order listed extra
 abbrev pub listKinds : ℕ → ℕ → ℕ → List Kind

@@ -11,7 +11,7 @@ ghost use Rattle.forms.specs.Workers.{Names};
 use pauli::PauliMatrix;
 use text::number_field;
 
-// X Z P: how many X words, Z words and phase bytes, and the place behind them.
+// X Z P: how many X words, Z words and phase words, and the place behind them.
 pub struct Set {
     pub ok: bool,
     pub x: usize,
@@ -20,12 +20,12 @@ pub struct Set {
     pub at: usize,
 }
 
-pub fn read_set(s: &[u8], at: usize, x: &mut [u64], z: &mut [u64], p: &mut [u8]) -> Set
+pub fn read_set(s: &[u8], at: usize, x: &mut [u64], z: &mut [u64], p: &mut [u64]) -> Set
     ensures { λ r. ⌜ SetRead (now (s .entry)) at (now (x .entry)) (now (x .exit)) (now (z .entry)) (now (z .exit)) (now (p .entry)) (now (p .exit)) r ⌝ }
 {
     let a = text::words_field(s, at, x);
     let b = text::words_field(s, a.at, z);
-    let c = text::bytes_field(s, b.at, p);
+    let c = text::words_field(s, b.at, p);
     Set {
         ok: a.ok & (b.ok & c.ok),
         x: a.count,
@@ -35,24 +35,27 @@ pub fn read_set(s: &[u8], at: usize, x: &mut [u64], z: &mut [u64], p: &mut [u8])
     }
 }
 
-// n X Z P: the same behind n.
+// n m X Z P: the same behind n and m.
 pub struct Rows {
     pub ok: bool,
     pub n: usize,
+    pub m: usize,
     pub x: usize,
     pub z: usize,
     pub p: usize,
     pub at: usize,
 }
 
-pub fn read_rows(s: &[u8], at: usize, x: &mut [u64], z: &mut [u64], p: &mut [u8]) -> Rows
+pub fn read_rows(s: &[u8], at: usize, x: &mut [u64], z: &mut [u64], p: &mut [u64]) -> Rows
     ensures { λ r. ⌜ RowsRead (now (s .entry)) at (now (x .entry)) (now (x .exit)) (now (z .entry)) (now (z .exit)) (now (p .entry)) (now (p .exit)) r ⌝ }
 {
     let n = number_field(s, at, u64::MAX);
-    let l = read_set(s, n.at, x, z, p);
+    let m = number_field(s, n.at, u64::MAX);
+    let l = read_set(s, m.at, x, z, p);
     Rows {
-        ok: n.ok & l.ok,
+        ok: n.ok & (m.ok & l.ok),
         n: n.value as usize,
+        m: m.value as usize,
         x: l.x,
         z: l.z,
         p: l.p,

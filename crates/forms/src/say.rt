@@ -101,17 +101,6 @@ fn words(out: &mut [u8], r: Put, xs: &[u64]) -> Put
     text::put_words(out, at, xs)
 }
 
-fn bytes(out: &mut [u8], r: Put, xs: &[u8]) -> Put
-    ensures { λ q. ⌜ Says (numbersText (now (xs .entry))) (now (out .entry)) r (now (out .exit)) q ⌝ }
-{
-    let r = mark(out, r, b' ');
-    if !r.ok {
-        return r;
-    }
-    let at = r.at;
-    text::put_bytes(out, at, xs)
-}
-
 fn halves(out: &mut [u8], r: Put, xs: &[u16]) -> Put
     ensures { λ q. ⌜ Says (numbersText (now (xs .entry))) (now (out .entry)) r (now (out .exit)) q ⌝ }
 {
@@ -196,12 +185,12 @@ fn pairs(out: &mut [u8], r: Put, xs: &[u16]) -> Put
 
 // ---- several fields, and the line's end
 
-fn set(out: &mut [u8], r: Put, x: &[u64], z: &[u64], p: &[u8]) -> Put
+fn set(out: &mut [u8], r: Put, x: &[u64], z: &[u64], p: &[u64]) -> Put
     ensures { λ q. ⌜ Says (setText (now (x .entry)) (now (z .entry)) (now (p .entry))) (now (out .entry)) r (now (out .exit)) q ⌝ }
 {
     let r = words(out, r, x);
     let r = words(out, r, z);
-    bytes(out, r, p)
+    words(out, r, p)
 }
 
 fn end(out: &mut [u8], r: Put) -> Put
@@ -210,7 +199,7 @@ fn end(out: &mut [u8], r: Put) -> Put
     mark(out, r, b'\n')
 }
 
-fn set_end(out: &mut [u8], r: Put, x: &[u64], z: &[u64], p: &[u8]) -> Put
+fn set_end(out: &mut [u8], r: Put, x: &[u64], z: &[u64], p: &[u64]) -> Put
     ensures { λ q. ⌜ Says (setText (now (x .entry)) (now (z .entry)) (now (p .entry)) ++ lineEnd) (now (out .entry)) r (now (out .exit)) q ⌝ }
 {
     let r = set(out, r, x, z, p);
@@ -345,14 +334,14 @@ pub fn counts(out: &mut [u8], r: Put, i: Tally, x: Tally, y: Tally, z: Tally) ->
     }
 }
 
-fn ok_set(out: &mut [u8], r: Put, x: &[u64], z: &[u64], p: &[u8]) -> Put
+fn ok_set(out: &mut [u8], r: Put, x: &[u64], z: &[u64], p: &[u64]) -> Put
     ensures { λ q. ⌜ Says (okSet (now (x .entry)) (now (z .entry)) (now (p .entry))) (now (out .entry)) r (now (out .exit)) q ⌝ }
 {
     let r = letters(out, r, b"ok");
     set_end(out, r, x, z, p)
 }
 
-pub fn changed(out: &mut [u8], r: Put, a: Answer, x: &[u64], z: &[u64], p: &[u8]) -> Put
+pub fn changed(out: &mut [u8], r: Put, a: Answer, x: &[u64], z: &[u64], p: &[u64]) -> Put
     ensures { λ q. ⌜ Says (changedLine a (now (x .entry)) (now (z .entry)) (now (p .entry))) (now (out .entry)) r (now (out .exit)) q ⌝ }
 {
     match a {
@@ -361,7 +350,7 @@ pub fn changed(out: &mut [u8], r: Put, a: Answer, x: &[u64], z: &[u64], p: &[u8]
     }
 }
 
-fn ok_product(out: &mut [u8], r: Put, c: u16, x: &[u64], z: &[u64], p: &[u8]) -> Put
+fn ok_product(out: &mut [u8], r: Put, c: u16, x: &[u64], z: &[u64], p: &[u64]) -> Put
     ensures { λ q. ⌜ Says (okProduct c (now (x .entry)) (now (z .entry)) (now (p .entry))) (now (out .entry)) r (now (out .exit)) q ⌝ }
 {
     let r = letters(out, r, b"ok");
@@ -369,7 +358,7 @@ fn ok_product(out: &mut [u8], r: Put, c: u16, x: &[u64], z: &[u64], p: &[u8]) ->
     number_end(out, r, c as u64)
 }
 
-pub fn product(out: &mut [u8], r: Put, a: Clashes, x: &[u64], z: &[u64], p: &[u8]) -> Put
+pub fn product(out: &mut [u8], r: Put, a: Clashes, x: &[u64], z: &[u64], p: &[u64]) -> Put
     ensures { λ q. ⌜ Says (productLine a (now (x .entry)) (now (z .entry)) (now (p .entry))) (now (out .entry)) r (now (out .exit)) q ⌝ }
 {
     match a {
@@ -378,7 +367,7 @@ pub fn product(out: &mut [u8], r: Put, a: Clashes, x: &[u64], z: &[u64], p: &[u8
     }
 }
 
-fn ok_pairs(out: &mut [u8], r: Put, x: &[u64], z: &[u64], p: &[u8], c: &[u16]) -> Put
+fn ok_pairs(out: &mut [u8], r: Put, x: &[u64], z: &[u64], p: &[u64], c: &[u16]) -> Put
     ensures { λ q. ⌜ Says (okPairs (now (x .entry)) (now (z .entry)) (now (p .entry)) (now (c .entry))) (now (out .entry)) r (now (out .exit)) q ⌝ }
 {
     let r = letters(out, r, b"ok");
@@ -387,7 +376,7 @@ fn ok_pairs(out: &mut [u8], r: Put, x: &[u64], z: &[u64], p: &[u8], c: &[u16]) -
     end(out, r)
 }
 
-pub fn paired(out: &mut [u8], r: Put, a: Answer, x: &[u64], z: &[u64], p: &[u8], c: &[u16]) -> Put
+pub fn paired(out: &mut [u8], r: Put, a: Answer, x: &[u64], z: &[u64], p: &[u64], c: &[u16]) -> Put
     ensures { λ q. ⌜ Says (pairLine a (now (x .entry)) (now (z .entry)) (now (p .entry)) (now (c .entry))) (now (out .entry)) r (now (out .exit)) q ⌝ }
 {
     match a {
@@ -473,7 +462,7 @@ pub fn written(out: &mut [u8], r: Put, a: Written, b: &[u8]) -> Put
 // ---- reductions
 
 // The first entries of the log, and the rows.
-fn standing(out: &mut [u8], r: Put, n: usize, log: &[u16], x: &[u64], z: &[u64], p: &[u8]) -> Put
+fn standing(out: &mut [u8], r: Put, n: usize, log: &[u16], x: &[u64], z: &[u64], p: &[u64]) -> Put
     ensures { λ q. ⌜ Says (standingText n (now (log .entry)) (now (x .entry)) (now (z .entry)) (now (p .entry))) (now (out .entry)) r (now (out .exit)) q ⌝ }
 {
     let r = entries(out, r, n, log);
@@ -498,7 +487,7 @@ fn ok_reduced(
     log: &[u16],
     x: &[u64],
     z: &[u64],
-    p: &[u8],
+    p: &[u64],
 ) -> Put
     ensures { λ q. ⌜ Says (okReduced n t (now (log .entry)) (now (x .entry)) (now (z .entry)) (now (p .entry))) (now (out .entry)) r (now (out .exit)) q ⌝ }
 {
@@ -508,7 +497,7 @@ fn ok_reduced(
     standing(out, r, n, log, x, z, p)
 }
 
-fn full(out: &mut [u8], r: Put, n: usize, log: &[u16], x: &[u64], z: &[u64], p: &[u8]) -> Put
+fn full(out: &mut [u8], r: Put, n: usize, log: &[u16], x: &[u64], z: &[u64], p: &[u64]) -> Put
     ensures { λ q. ⌜ Says (fullLog n (now (log .entry)) (now (x .entry)) (now (z .entry)) (now (p .entry))) (now (out .entry)) r (now (out .exit)) q ⌝ }
 {
     let r = letters(out, r, b"refuse 8");
@@ -523,7 +512,7 @@ pub fn reduced(
     log: &[u16],
     x: &[u64],
     z: &[u64],
-    p: &[u8],
+    p: &[u64],
 ) -> Put
     ensures { λ q. ⌜ Says (reduceLine a (now (log .entry)) (now (x .entry)) (now (z .entry)) (now (p .entry))) (now (out .entry)) r (now (out .exit)) q ⌝ }
 {
@@ -535,7 +524,7 @@ pub fn reduced(
 }
 
 // A verdict with a number, and the rows.
-fn verdict_at(out: &mut [u8], r: Put, name: &[u8], k: usize, x: &[u64], z: &[u64], p: &[u8]) -> Put
+fn verdict_at(out: &mut [u8], r: Put, name: &[u8], k: usize, x: &[u64], z: &[u64], p: &[u64]) -> Put
     ensures { λ q. ⌜ Says (verdictAt (now (name .entry)) k (now (x .entry)) (now (z .entry)) (now (p .entry))) (now (out .entry)) r (now (out .exit)) q ⌝ }
 {
     let r = letters(out, r, name);
@@ -543,14 +532,14 @@ fn verdict_at(out: &mut [u8], r: Put, name: &[u8], k: usize, x: &[u64], z: &[u64
     set_end(out, r, x, z, p)
 }
 
-fn verdict(out: &mut [u8], r: Put, name: &[u8], x: &[u64], z: &[u64], p: &[u8]) -> Put
+fn verdict(out: &mut [u8], r: Put, name: &[u8], x: &[u64], z: &[u64], p: &[u64]) -> Put
     ensures { λ q. ⌜ Says (verdictPlain (now (name .entry)) (now (x .entry)) (now (z .entry)) (now (p .entry))) (now (out .entry)) r (now (out .exit)) q ⌝ }
 {
     let r = letters(out, r, name);
     set_end(out, r, x, z, p)
 }
 
-pub fn checked(out: &mut [u8], r: Put, a: Verdict, x: &[u64], z: &[u64], p: &[u8]) -> Put
+pub fn checked(out: &mut [u8], r: Put, a: Verdict, x: &[u64], z: &[u64], p: &[u64]) -> Put
     ensures { λ q. ⌜ Says (checkLine a (now (x .entry)) (now (z .entry)) (now (p .entry))) (now (out .entry)) r (now (out .exit)) q ⌝ }
 {
     match a {
@@ -562,7 +551,7 @@ pub fn checked(out: &mut [u8], r: Put, a: Verdict, x: &[u64], z: &[u64], p: &[u8
     }
 }
 
-pub fn undone(out: &mut [u8], r: Put, a: Undone, x: &[u64], z: &[u64], p: &[u8]) -> Put
+pub fn undone(out: &mut [u8], r: Put, a: Undone, x: &[u64], z: &[u64], p: &[u64]) -> Put
     ensures { λ q. ⌜ Says (undoLine a (now (x .entry)) (now (z .entry)) (now (p .entry))) (now (out .entry)) r (now (out .exit)) q ⌝ }
 {
     match a {
