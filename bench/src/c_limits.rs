@@ -39,18 +39,18 @@ extern "C" {
 
 #[cfg(limits)]
 fn half(set: &Set, out: &mut [u64]) {
-    unsafe { limit_half(set.n, set.phases.len(), set.x.as_ptr(), set.z.as_ptr(), out.as_mut_ptr()) }
+    unsafe { limit_half(set.n, set.m, set.x.as_ptr(), set.z.as_ptr(), out.as_mut_ptr()) }
 }
 
 #[cfg(limits)]
 fn tables(set: &Set, out: &mut [u64]) {
-    unsafe { limit_tables(set.n, set.phases.len(), set.x.as_ptr(), set.z.as_ptr(), out.as_mut_ptr()) }
+    unsafe { limit_tables(set.n, set.m, set.x.as_ptr(), set.z.as_ptr(), out.as_mut_ptr()) }
 }
 
 #[cfg(limits)]
 fn xor(left: &Set, right: &Set, out: &mut Set) {
     let (l, r) = (left, right);
-    let m = l.phases.len();
+    let m = l.m;
     let (ox, oz) = (out.x.as_mut_ptr(), out.z.as_mut_ptr());
     unsafe { limit_xor(l.n, m, l.x.as_ptr(), l.z.as_ptr(), r.x.as_ptr(), r.z.as_ptr(), ox, oz) }
 }

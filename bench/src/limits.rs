@@ -7,6 +7,7 @@ use oracle::container::coeffs::complex_sign::ComplexSign;
 use oracle::qubit::pauli::cmpnt_major::terms::{AsViewMut, Terms};
 
 use crate::fields;
+use crate::model::{phase_words_for, PHASES};
 use crate::ours::{self, Claim, BAD_ENTRY, DIFFERS, NOT_REDUCED};
 use crate::random::Random;
 use crate::rows::Set;
@@ -40,7 +41,8 @@ pub fn run() {
 /// Rows that the last qubit of the last two rows alone keeps from being the identity.
 fn last_ones() -> Set {
     let words = ROWS * QUBITS / 64;
-    let mut set = Set { n: QUBITS, x: vec![0; words], z: vec![0; words], phases: vec![3; ROWS] };
+    let mut set =
+        Set { n: QUBITS, m: ROWS, x: vec![0; words], z: vec![0; words], phases: vec![!0; phase_words_for(ROWS)] };
     set.x[words - 1] = 1 << 63;
     set.z[words - 1 - QUBITS / 64] = 1 << 63;
     set
@@ -48,7 +50,7 @@ fn last_ones() -> Set {
 
 fn matrix(set: &Set) {
     let name = "compatibility_matrix";
-    let m = set.phases.len();
+    let m = set.m;
     let rust = set.terms().word_iters;
     let mut out = vec![!0; m * m.div_ceil(64)];
     assert_eq!(ours::compatibility_matrix(set, &mut out), 0);
@@ -85,13 +87,13 @@ fn pairwise(left: &Set, right: &Set) {
 fn clashing(left: &Set, right: &Set) -> Vec<u16> {
     let w = left.n / 64;
     let word = |i: usize| ((left.x[i] & right.z[i]) ^ (left.z[i] & right.x[i])).count_ones() as u16;
-    (0..left.phases.len()).map(|r| (r * w..(r + 1) * w).map(word).sum()).collect()
+    (0..left.m).map(|r| (r * w..(r + 1) * w).map(word).sum()).collect()
 }
 
 /// Each row times the next one, all around.
 fn in_place(set: &Set) {
     let name = "imul";
-    let m = set.phases.len();
+    let m = set.m;
     let (mut ours, mut rust) = (set.clone(), set.terms());
     let sweep = |set: &mut Set| (0..m).for_each(|i| assert_eq!(ours::imul(set, black_box(i), (i + 1) % m), 0));
     let rust_sweep = |set: &mut Terms<ComplexSign>| (0..m).for_each(|i| set.imul(black_box(i), (i + 1) % m));
@@ -111,7 +113,7 @@ fn in_place(set: &Set) {
 /// The reduction with a log of the needed length, with one entry less, and the check of the log.
 fn reduction(set: &Set) {
     let name = "canonicalize_all";
-    let m = set.phases.len();
+    let m = set.m;
     let (mut done, mut rust) = (set.clone(), set.terms());
     let mut log = vec![0; 2 * m * (2 * set.n).min(m)];
     let (code, entries, t) = ours::canonicalize_all(&mut done, &mut log);
@@ -180,21 +182,21 @@ fn checked(set: &Set, done: &Set, log: &[u16]) {
 
 /// All columns, and all rows.
 fn whole(set: &Set) -> (Vec<u16>, Vec<u16>) {
-    ((0..2 * set.n as u16).collect(), (0..set.phases.len() as u16).collect())
+    ((0..2 * set.n as u16).collect(), (0..set.m as u16).collect())
 }
 
 /// What the last row, the last entry, the last column and a row number of m change in the verdict.
 fn verdicts(set: &Set, done: &Set, claim: &Claim) {
-    let last = set.phases.len() - 1;
+    let last = set.m - 1;
     let mut other = done.clone();
-    other.phases[last] ^= 1;
+    other.phases[last / PHASES] ^= 1 << (2 * (last % PHASES));
     assert_eq!(ours::check(&mut set.clone(), &Claim { rows: &other, ..*claim }), (DIFFERS, last));
     let mut bits = done.clone();
     *bits.z.last_mut().expect("a word") ^= 1 << 63;
     assert_eq!(ours::check(&mut set.clone(), &Claim { rows: &bits, ..*claim }), (DIFFERS, last));
     let mut log = claim.log.to_vec();
     let units = log.len();
-    log[units - 2] = set.phases.len() as u16;
+    log[units - 2] = set.m as u16;
     let mut rows = set.clone();
     assert_eq!(ours::check(&mut rows, &Claim { log: &log, ..*claim }), (BAD_ENTRY, units / 2 - 1));
     same("the rows at a bad entry", rows == *set);
@@ -202,7 +204,8 @@ fn verdicts(set: &Set, done: &Set, claim: &Claim) {
 }
 
 fn blank(like: &Set) -> Set {
-    Set { n: like.n, x: vec![!0; like.x.len()], z: vec![!0; like.z.len()], phases: vec![!0; like.phases.len()] }
+    let ones = |words: &[u64]| vec![!0; words.len()];
+    Set { n: like.n, m: like.m, x: ones(&like.x), z: ones(&like.z), phases: ones(&like.phases) }
 }
 
 fn same(name: &str, yes: bool) {
@@ -238,7 +241,7 @@ fn stacks(left: &Set, right: &Set) {
 fn refusals(set: &Set) {
     let columns = |n: usize, m: usize| {
         let words = m * n.div_ceil(64);
-        Set { n, x: vec![0; words], z: vec![0; words], phases: vec![0; m] }
+        Set { n, m, x: vec![0; words], z: vec![0; words], phases: vec![0; phase_words_for(m)] }
     };
     for (n, m, number) in [(QUBITS + 1, 1, 1), (1, ROWS + 1, 2), (QUBITS + 1, ROWS + 1, 1), (QUBITS, ROWS + 1, 2)] {
         all_calls(&columns(n, m), number);
@@ -249,9 +252,14 @@ fn refusals(set: &Set) {
     let mut spare = columns(QUBITS - 1, ROWS);
     *spare.z.last_mut().expect("a word") = 1 << 63;
     all_calls(&spare, 4);
-    let mut phase = set.clone();
-    phase.phases[ROWS - 1] = 4;
-    all_calls(&phase, 5);
+    for bit in [62, 63] {
+        let mut phase = columns(QUBITS, ROWS - 1);
+        *phase.phases.last_mut().expect("a phase word") = 1 << bit;
+        all_calls(&phase, 5);
+    }
+    let mut short = set.clone();
+    short.phases.pop();
+    all_calls(&short, 3);
     let mut rows = set.clone();
     assert_eq!(ours::imul(&mut rows, ROWS, 0), 6);
     assert_eq!(ours::imul(&mut rows, 0, ROWS), 6);
@@ -272,7 +280,7 @@ fn refusals(set: &Set) {
 
 /// Every call refuses the set with this number and changes nothing.
 fn all_calls(set: &Set, number: u8) {
-    let m = set.phases.len();
+    let m = set.m;
     let mut out = vec![7; m * m.div_ceil(64)];
     assert_eq!(ours::compatibility_matrix(set, &mut out), number);
     same("the matrix at a refusal", out.iter().all(|word| *word == 7));

@@ -79,7 +79,7 @@ fn times() {
     for m in [64, 256, 4096] {
         pairwise(&Set::random(&mut random, QUBITS, m), &Set::random(&mut random, QUBITS, m));
     }
-    for m in [64, 256] {
+    for m in [64, 256, 4096] {
         in_place(&Set::random(&mut random, QUBITS, m));
     }
     for m in [256, 4096] {
@@ -107,7 +107,7 @@ fn edge(random: &mut Random, m: usize) {
     let ours = fields::hex(out.iter().copied());
     let rust = set.terms().word_iters.compatibility_matrix();
     agree(&name, ours.clone(), fields::hex((0..m).flat_map(|i| rust[i].to_vec())));
-    let rows = model::unpacked(N, &model::Set { x: set.x.clone(), z: set.z.clone(), p: set.phases.clone() });
+    let rows = model::unpacked(N, &model::Set { m, x: set.x.clone(), z: set.z.clone(), p: set.phases.clone() });
     let mut plain = vec![0; m * w];
     for (i, a) in rows.iter().enumerate() {
         for (j, b) in rows.iter().enumerate() {
@@ -136,7 +136,7 @@ fn agree(name: &str, ours: String, rust: String) {
 }
 
 fn size(set: &Set) -> String {
-    format!("{} rows of {} qubits", set.phases.len(), set.n)
+    format!("{} rows of {} qubits", set.m, set.n)
 }
 
 /// How often a side is timed at m rows.
@@ -150,7 +150,7 @@ fn runs(m: usize) -> usize {
 
 fn matrix(set: &Set) {
     let name = "compatibility_matrix";
-    let m = set.phases.len();
+    let m = set.m;
     let rust = set.terms().word_iters;
     let mut out = vec![!0; m * m.div_ceil(64)];
     assert_eq!(ours::compatibility_matrix(set, &mut out), 0);
@@ -178,9 +178,10 @@ fn matrix(set: &Set) {
 
 fn pairwise(left: &Set, right: &Set) {
     let name = "cmpnts_mul_pairwise";
-    let m = left.phases.len();
+    let m = left.m;
     let (rust_left, rust_right) = (left.terms().word_iters, right.terms().word_iters);
-    let blank = || Set { n: left.n, x: vec![!0; left.x.len()], z: vec![!0; left.z.len()], phases: vec![!0; m] };
+    let ones = |words: &[u64]| vec![!0; words.len()];
+    let blank = || Set { n: left.n, m, x: ones(&left.x), z: ones(&left.z), phases: ones(&left.phases) };
     let mut out = blank();
     let mut clashes = vec![!0u16; m];
     assert_eq!(ours::cmpnts_mul_pairwise(left, right, &mut out, &mut clashes), 0);
@@ -224,7 +225,7 @@ fn pairwise(left: &Set, right: &Set) {
 /// Each row times the next one, all around.
 fn in_place(set: &Set) {
     let name = "imul";
-    let m = set.phases.len();
+    let m = set.m;
     let (mut ours, mut rust) = (set.clone(), set.terms());
     let sweep = |set: &mut Set| (0..m).for_each(|i| assert_eq!(ours::imul(set, black_box(i), (i + 1) % m), 0));
     let rust_sweep = |set: &mut Terms<ComplexSign>| (0..m).for_each(|i| set.imul(black_box(i), (i + 1) % m));
@@ -277,7 +278,7 @@ fn gates(set: &Set) {
 
 fn reduction(set: &Set) {
     let name = "canonicalize_all";
-    let m = set.phases.len();
+    let m = set.m;
     // room for the most entries that the rule can need
     let mut log = vec![0; 2 * m * m];
     let (mut ours, mut rust) = (set.clone(), set.terms());

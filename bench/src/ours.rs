@@ -6,11 +6,12 @@ use crate::rows::{Operator, Set, States, WholeOperator};
 extern "C" {
     fn speed_compatibility_matrix(
         n: usize,
+        m: usize,
         x: *const u64,
         x_len: usize,
         z: *const u64,
         z_len: usize,
-        phases: *const u8,
+        phases: *const u64,
         phases_len: usize,
         out: *mut u64,
         out_len: usize,
@@ -18,23 +19,24 @@ extern "C" {
 
     fn speed_cmpnts_mul_pairwise(
         n: usize,
+        m: usize,
         lx: *const u64,
         lx_len: usize,
         lz: *const u64,
         lz_len: usize,
-        lp: *const u8,
+        lp: *const u64,
         lp_len: usize,
         rx: *const u64,
         rx_len: usize,
         rz: *const u64,
         rz_len: usize,
-        rp: *const u8,
+        rp: *const u64,
         rp_len: usize,
         ox: *mut u64,
         ox_len: usize,
         oz: *mut u64,
         oz_len: usize,
-        op: *mut u8,
+        op: *mut u64,
         op_len: usize,
         clashes: *mut u16,
         clashes_len: usize,
@@ -42,11 +44,12 @@ extern "C" {
 
     fn speed_imul(
         n: usize,
+        m: usize,
         x: *mut u64,
         x_len: usize,
         z: *mut u64,
         z_len: usize,
-        phases: *mut u8,
+        phases: *mut u64,
         phases_len: usize,
         a: usize,
         b: usize,
@@ -55,33 +58,36 @@ extern "C" {
 
     fn speed_conj_h(
         n: usize,
+        m: usize,
         x: *mut u64,
         x_len: usize,
         z: *mut u64,
         z_len: usize,
-        phases: *mut u8,
+        phases: *mut u64,
         phases_len: usize,
         q: usize,
     ) -> u8;
 
     fn speed_conj_s(
         n: usize,
+        m: usize,
         x: *mut u64,
         x_len: usize,
         z: *mut u64,
         z_len: usize,
-        phases: *mut u8,
+        phases: *mut u64,
         phases_len: usize,
         q: usize,
     ) -> u8;
 
     fn speed_conj_cx(
         n: usize,
+        m: usize,
         x: *mut u64,
         x_len: usize,
         z: *mut u64,
         z_len: usize,
-        phases: *mut u8,
+        phases: *mut u64,
         phases_len: usize,
         control: usize,
         target: usize,
@@ -89,11 +95,12 @@ extern "C" {
 
     fn speed_canonicalize_all(
         n: usize,
+        m: usize,
         x: *mut u64,
         x_len: usize,
         z: *mut u64,
         z_len: usize,
-        phases: *mut u8,
+        phases: *mut u64,
         phases_len: usize,
         log: *mut u16,
         log_len: usize,
@@ -103,11 +110,12 @@ extern "C" {
 
     fn speed_check(
         n: usize,
+        m: usize,
         x: *mut u64,
         x_len: usize,
         z: *mut u64,
         z_len: usize,
-        phases: *mut u8,
+        phases: *mut u64,
         phases_len: usize,
         order: *const u16,
         order_len: usize,
@@ -121,7 +129,7 @@ extern "C" {
         cx_len: usize,
         cz: *const u64,
         cz_len: usize,
-        cphases: *const u8,
+        cphases: *const u64,
         cphases_len: usize,
         place: *mut usize,
     ) -> u8;
@@ -173,6 +181,7 @@ pub fn compatibility_matrix(set: &Set, out: &mut [u64]) -> u8 {
     unsafe {
         speed_compatibility_matrix(
             set.n,
+            set.m,
             set.x.as_ptr(),
             set.x.len(),
             set.z.as_ptr(),
@@ -189,6 +198,7 @@ pub fn cmpnts_mul_pairwise(left: &Set, right: &Set, out: &mut Set, clashes: &mut
     unsafe {
         speed_cmpnts_mul_pairwise(
             left.n,
+            left.m,
             left.x.as_ptr(),
             left.x.len(),
             left.z.as_ptr(),
@@ -218,6 +228,7 @@ pub fn imul(set: &mut Set, a: usize, b: usize) -> u8 {
     unsafe {
         speed_imul(
             set.n,
+            set.m,
             set.x.as_mut_ptr(),
             set.x.len(),
             set.z.as_mut_ptr(),
@@ -231,12 +242,12 @@ pub fn imul(set: &mut Set, a: usize, b: usize) -> u8 {
     }
 }
 
-/// The number, the entries and the pivots.
 /// H of a qubit.
 pub fn conj_h(set: &mut Set, q: usize) -> u8 {
     unsafe {
         speed_conj_h(
             set.n,
+            set.m,
             set.x.as_mut_ptr(),
             set.x.len(),
             set.z.as_mut_ptr(),
@@ -253,6 +264,7 @@ pub fn conj_s(set: &mut Set, q: usize) -> u8 {
     unsafe {
         speed_conj_s(
             set.n,
+            set.m,
             set.x.as_mut_ptr(),
             set.x.len(),
             set.z.as_mut_ptr(),
@@ -269,6 +281,7 @@ pub fn conj_cx(set: &mut Set, control: usize, target: usize) -> u8 {
     unsafe {
         speed_conj_cx(
             set.n,
+            set.m,
             set.x.as_mut_ptr(),
             set.x.len(),
             set.z.as_mut_ptr(),
@@ -281,11 +294,13 @@ pub fn conj_cx(set: &mut Set, control: usize, target: usize) -> u8 {
     }
 }
 
+/// The number, the entries and the pivots.
 pub fn canonicalize_all(set: &mut Set, log: &mut [u16]) -> (u8, usize, usize) {
     let (mut entries, mut t) = (0, 0);
     let code = unsafe {
         speed_canonicalize_all(
             set.n,
+            set.m,
             set.x.as_mut_ptr(),
             set.x.len(),
             set.z.as_mut_ptr(),
@@ -322,6 +337,7 @@ pub fn check(set: &mut Set, claim: &Claim) -> (u8, usize) {
     let code = unsafe {
         speed_check(
             set.n,
+            set.m,
             set.x.as_mut_ptr(),
             set.x.len(),
             set.z.as_mut_ptr(),

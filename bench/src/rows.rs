@@ -12,15 +12,17 @@ use oracle::qubit::state::cmpnt_list::CmpntList as StateList;
 use oracle::qubit::state::terms::Terms as StateTerms;
 
 use crate::fields::rows;
+use crate::model::{phase_at, phase_words};
 use crate::random::Random;
 
-/// A row set as it lies in memory.
+/// A row set as it lies in memory: m rows of n qubits, phases two bits each.
 #[derive(Clone, PartialEq)]
 pub struct Set {
     pub n: usize,
+    pub m: usize,
     pub x: Vec<u64>,
     pub z: Vec<u64>,
-    pub phases: Vec<u8>,
+    pub phases: Vec<u64>,
 }
 
 impl Set {
@@ -29,15 +31,15 @@ impl Set {
         assert_eq!(n % 64, 0);
         let mut words = || (0..m * n / 64).map(|_| random.word()).collect::<Vec<_>>();
         let (x, z) = (words(), words());
-        let phases = (0..m).map(|_| random.below(4) as u8).collect();
-        Self { n, x, z, phases }
+        let phases = (0..m).map(|_| random.below(4) as u8).collect::<Vec<_>>();
+        Self { n, m, x, z, phases: phase_words(&phases) }
     }
 
     /// The same rows for the Rust.
     pub fn terms(&self) -> Terms<ComplexSign> {
         let mut phases = ComplexSignVec::default();
-        self.phases.iter().for_each(|p| phases.push(ComplexSign(*p)));
-        Terms::from((rows(self.n, self.phases.len(), &self.x, &self.z), phases))
+        (0..self.m).for_each(|r| phases.push(ComplexSign(phase_at(&self.phases, r))));
+        Terms::from((rows(self.n, self.m, &self.x, &self.z), phases))
     }
 }
 

@@ -5,8 +5,9 @@ use std::collections::BTreeMap;
 use std::io::{Read, Write};
 use std::process::{Command, Stdio};
 
-use crate::line::{is_case, parsed, Case, CALLS};
+use crate::line::{is_case, parsed, Case, CALLS, MORE, SET};
 use crate::model;
+use crate::rows::{unpacked, Set};
 
 /// The programs to be asked, each with its arguments.
 pub struct Programs {
@@ -310,8 +311,8 @@ impl Signs {
     /// Counts a pairwise product that the Rust has answered.
     fn judge(&mut self, line: &str, agree: bool) {
         if let Some(case) = parsed(line).filter(|case| case.call == "pair") {
-            let mut phases = case.bytes(3).iter().zip(case.bytes(6));
-            let cancels = phases.all(|(left, right)| (left + right) % 4 == 0);
+            let rows = |at: usize| unpacked(0, &Set { x: vec![], z: vec![], ..model::set_at(&case, at) });
+            let cancels = rows(SET).iter().zip(rows(MORE)).all(|(left, right)| (left.phase + right.phase) % 4 == 0);
             let kind = if cancels { &mut self.cancelling } else { &mut self.signed };
             kind.add(agree);
         }

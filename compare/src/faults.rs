@@ -3,10 +3,11 @@
 
 use crate::gates::Gate;
 use crate::limits::{QUBITS, ROWS, VECTORS, WORDS_IN_REACH};
-use crate::line::{Case, Field};
+use crate::line::{Case, Field, M, MORE, SET};
+use crate::model::set_at;
 use crate::random::Random;
 use crate::reduction::{reduce, Lists};
-use crate::rows::{unpacked, words_for, Set};
+use crate::rows::{phase_words_for, unpacked, words_for, Set, PHASES};
 use crate::texts;
 
 /// A change, and whether it could be made.
@@ -29,32 +30,38 @@ const SETS: &[(u8, Fault)] = &[
     (1, more_qubits),
     (1, many_qubits),
     (2, more_rows),
+    (2, many_rows),
     (3, x_longer),
     (3, x_shorter),
     (3, z_longer),
     (3, z_shorter),
+    (3, p_longer),
+    (3, p_shorter),
+    (3, one_row_more),
     (4, spare_x),
     (4, spare_z),
-    (5, phase_of_4),
-    (5, phase_of_255),
+    (5, spare_next_to_last_row),
+    (5, spare_last_bit),
 ];
 
 const SECOND: &[(u8, Fault)] = &[
-    (2, second_more_rows),
     (3, second_x_longer),
     (3, second_z_shorter),
+    (3, second_p_longer),
+    (3, second_p_shorter),
     (3, second_one_row_more),
     (4, second_spare_x),
     (4, second_spare_z),
-    (5, second_phase_of_4),
+    (5, second_spare_next_to_last_row),
+    (5, second_spare_last_bit),
 ];
 
 const TERMS: &[(u8, Fault)] = &[
     (1, no_qubits),
     (1, qubits_65),
     (1, many_qubits),
-    (3, z_longer),
-    (3, z_shorter),
+    (3, term_z_longer),
+    (3, term_z_shorter),
     (3, re_longer),
     (3, re_shorter),
     (3, im_longer),
@@ -106,7 +113,7 @@ fn own(call: &str) -> &'static [(u8, Fault)] {
         }
         "gate" => &[(6, qubit_of_n), (6, last_qubit_far_too_large), (21, one_qubit_twice)],
         "pair" => &[
-            (2, third_more_rows),
+            (3, third_one_row_more),
             (3, third_x_longer),
             (3, third_z_longer),
             (3, third_p_longer),
@@ -155,11 +162,8 @@ fn words(case: &mut Case, i: usize) -> &mut Vec<u64> {
     }
 }
 
-fn bytes(case: &mut Case, i: usize) -> &mut Vec<u8> {
-    match &mut case.fields[i] {
-        Field::Bytes(v) => v,
-        _ => unreachable!("field {i} of {}", case.call),
-    }
+fn m_of(case: &Case) -> usize {
+    case.number(M) as usize
 }
 
 fn shorts(case: &mut Case, i: usize) -> &mut Vec<u16> {
@@ -181,9 +185,9 @@ fn set_number(case: &mut Case, i: usize, to: u64) -> bool {
 /// Where the call's second set starts.
 fn second(case: &Case) -> usize {
     if case.call == "pair" {
-        4
+        MORE
     } else {
-        8
+        MORE + 4
     }
 }
 
@@ -264,20 +268,20 @@ fn all_least(case: &mut Case, _: &mut Random) -> bool {
 /// One qubit more than the limit, with words to match.
 fn more_qubits(case: &mut Case, _: &mut Random) -> bool {
     let w = words_for(n_of(case));
-    let fits = |case: &Case, i: usize| case.words(i).len() == case.bytes(3).len() * w;
-    if n_of(case) > QUBITS || !fits(case, 1) || !fits(case, 2) || !few_rows(case) {
+    let fits = |case: &Case, i: usize| case.words(i).len() == m_of(case) * w;
+    if n_of(case) > QUBITS || !few_rows(case) || !fits(case, SET) || !fits(case, SET + 1) {
         return false;
     }
-    refit(case, 1, w);
+    refit(case, SET, w);
     match case.call {
         "pair" => {
-            refit(case, 4, w);
-            let m = case.bytes(3).len() as u64;
-            let words = m * words_for(QUBITS + 1) as u64;
-            case.fields[7] = Field::Lengths([words, words, m, m]);
+            refit(case, MORE, w);
+            let m = m_of(case);
+            let words = m * words_for(QUBITS + 1);
+            case.fields[MORE + 3] = Field::Lengths([words, words, phase_words_for(m), m].map(|v| v as u64));
         }
-        "check" => refit(case, 8, w),
-        "act" => words(case, 5).resize(words_for(QUBITS + 1), 0),
+        "check" => refit(case, MORE + 4, w),
+        "act" => words(case, MORE + 1).resize(words_for(QUBITS + 1), 0),
         _ => {}
     }
     set_number(case, 0, QUBITS as u64 + 1)
@@ -285,14 +289,12 @@ fn more_qubits(case: &mut Case, _: &mut Random) -> bool {
 
 /// Whether a line may have a row of so many qubits for each row.
 fn few_rows(case: &Case) -> bool {
-    let most = WORDS_IN_REACH / words_for(QUBITS + 1);
-    let second = matches!(case.call, "pair" | "check").then(|| second(case) + 2);
-    [Some(3), second].into_iter().flatten().all(|at| case.bytes(at).len() <= most)
+    m_of(case) <= WORDS_IN_REACH / words_for(QUBITS + 1)
 }
 
 fn refit(case: &mut Case, at: usize, w: usize) {
     for i in [at, at + 1] {
-        let rows = bytes(case, at + 2).len();
+        let rows = m_of(case);
         let old = words(case, i).clone();
         let row = |r: usize| {
             let mut row: Vec<u64> = old.iter().skip(r * w).take(w).copied().collect();
@@ -318,59 +320,78 @@ fn qubits_65(case: &mut Case, _: &mut Random) -> bool {
 
 // ---- 2
 
-/// One row more than the limit, with words to match where a line may have so many; 2 comes before 3.
-fn to_more_rows(case: &mut Case, at: usize) -> bool {
-    bytes(case, at + 2).resize(ROWS + 1, 0);
+/// Words for one row more than the limit, as many as a line may have.
+fn to_more_rows(case: &mut Case, at: usize) {
     let size = words_of_more_rows(case);
     words(case, at).resize(size, 0);
     words(case, at + 1).resize(size, 0);
-    true
+    words(case, at + 2).resize(phase_words_for(ROWS + 1), 0);
 }
 
 fn words_of_more_rows(case: &Case) -> usize {
     ((ROWS + 1) * words_for(n_of(case).min(QUBITS))).min(WORDS_IN_REACH)
 }
 
-fn more_rows(case: &mut Case, random: &mut Random) -> bool {
+/// One row more than the limit, in every set, with lengths to match.
+fn more_rows(case: &mut Case, _: &mut Random) -> bool {
     if matches!(case.call, "pair" | "check") {
         let at = second(case);
         to_more_rows(case, at);
     }
     if case.call == "pair" {
-        third_more_rows(case, random);
+        let size = words_of_more_rows(case);
+        case.fields[MORE + 3] = Field::Lengths([size, size, phase_words_for(ROWS + 1), ROWS + 1].map(|v| v as u64));
     }
     if case.call == "matrix" {
-        set_number(case, 4, WORDS_IN_REACH as u64);
+        set_number(case, MORE, WORDS_IN_REACH as u64);
     }
-    to_more_rows(case, 1)
+    to_more_rows(case, SET);
+    set_number(case, M, ROWS as u64 + 1)
 }
 
-fn second_more_rows(case: &mut Case, _: &mut Random) -> bool {
-    let at = second(case);
-    to_more_rows(case, at)
-}
-
-fn third_more_rows(case: &mut Case, _: &mut Random) -> bool {
-    let size = words_of_more_rows(case) as u64;
-    case.fields[7] = Field::Lengths([size, size, ROWS as u64 + 1, ROWS as u64 + 1]);
-    true
+/// More rows than the limit whatever the lengths, which come after.
+fn many_rows(case: &mut Case, random: &mut Random) -> bool {
+    let m = random.pick(&[ROWS as u64 + 1, ROWS as u64 + 32, 8192, 65536, 1 << 32, 1 << 63, u64::MAX]);
+    set_number(case, M, m)
 }
 
 // ---- 3
 
 fn x_longer(case: &mut Case, _: &mut Random) -> bool {
-    longer(words(case, 1))
+    longer(words(case, SET))
 }
 
 fn x_shorter(case: &mut Case, _: &mut Random) -> bool {
-    shorter(words(case, 1))
+    shorter(words(case, SET))
 }
 
 fn z_longer(case: &mut Case, _: &mut Random) -> bool {
-    longer(words(case, 2))
+    longer(words(case, SET + 1))
 }
 
 fn z_shorter(case: &mut Case, _: &mut Random) -> bool {
+    shorter(words(case, SET + 1))
+}
+
+fn p_longer(case: &mut Case, _: &mut Random) -> bool {
+    longer(words(case, SET + 2))
+}
+
+fn p_shorter(case: &mut Case, _: &mut Random) -> bool {
+    shorter(words(case, SET + 2))
+}
+
+/// m one more than the words are for: seen by the X words, or by the phase words where the last one is full.
+fn one_row_more(case: &mut Case, _: &mut Random) -> bool {
+    let m = m_of(case);
+    (n_of(case) > 0 || m % PHASES == 0) && set_number(case, M, (m as u64).saturating_add(1))
+}
+
+fn term_z_longer(case: &mut Case, _: &mut Random) -> bool {
+    longer(words(case, 2))
+}
+
+fn term_z_shorter(case: &mut Case, _: &mut Random) -> bool {
     shorter(words(case, 2))
 }
 
@@ -384,12 +405,24 @@ fn second_z_shorter(case: &mut Case, _: &mut Random) -> bool {
     shorter(words(case, at + 1))
 }
 
+fn second_p_longer(case: &mut Case, _: &mut Random) -> bool {
+    let at = second(case);
+    longer(words(case, at + 2))
+}
+
+fn second_p_shorter(case: &mut Case, _: &mut Random) -> bool {
+    let at = second(case);
+    shorter(words(case, at + 2))
+}
+
+/// Words for a row more than m.
 fn second_one_row_more(case: &mut Case, _: &mut Random) -> bool {
     let (at, w) = (second(case), words_for(n_of(case).min(QUBITS)));
-    if bytes(case, at + 2).len() > ROWS {
+    let m = m_of(case);
+    if m > ROWS || (w == 0 && m % PHASES != 0) {
         return false;
     }
-    bytes(case, at + 2).push(0);
+    words(case, at + 2).resize(phase_words_for(m + 1), 0);
     for i in [at, at + 1] {
         let list = words(case, i);
         list.resize(list.len() + w, 0);
@@ -431,25 +464,34 @@ fn im_shorter(case: &mut Case, _: &mut Random) -> bool {
 }
 
 fn state_longer(case: &mut Case, _: &mut Random) -> bool {
-    longer(words(case, 5))
+    longer(words(case, MORE + 1))
 }
 
 fn state_shorter(case: &mut Case, _: &mut Random) -> bool {
-    shorter(words(case, 5))
+    shorter(words(case, MORE + 1))
 }
 
 fn out_longer(case: &mut Case, _: &mut Random) -> bool {
-    let to = case.number(4) + 1;
-    set_number(case, 4, to)
+    let to = case.number(MORE) + 1;
+    set_number(case, MORE, to)
 }
 
 fn out_shorter(case: &mut Case, _: &mut Random) -> bool {
-    let to = case.number(4).saturating_sub(1);
-    set_number(case, 4, to)
+    let to = case.number(MORE).saturating_sub(1);
+    set_number(case, MORE, to)
+}
+
+/// A third set for a row more than m.
+fn third_one_row_more(case: &mut Case, _: &mut Random) -> bool {
+    let (m, w) = (m_of(case), words_for(n_of(case).min(QUBITS)));
+    let size = (m.min(ROWS) + 1) * w;
+    let lengths = [size, size, phase_words_for(m.min(ROWS) + 1), m.min(ROWS) + 1].map(|v| v as u64);
+    case.fields[MORE + 3] = Field::Lengths(lengths);
+    size <= WORDS_IN_REACH
 }
 
 fn third(case: &mut Case, i: usize, by: i64) -> bool {
-    let Field::Lengths(lengths) = &mut case.fields[7] else { unreachable!("the lengths of pair") };
+    let Field::Lengths(lengths) = &mut case.fields[MORE + 3] else { unreachable!("the lengths of pair") };
     let old = lengths[i];
     lengths[i] = old.saturating_add_signed(by);
     lengths[i] != old
@@ -481,7 +523,7 @@ fn numbers_shorter(case: &mut Case, _: &mut Random) -> bool {
 
 /// More numbers than rows are allowed: the lent numbers are no rows, so it is 3 as well.
 fn numbers_above_rows(case: &mut Case, _: &mut Random) -> bool {
-    let Field::Lengths(lengths) = &mut case.fields[7] else { unreachable!("the lengths of pair") };
+    let Field::Lengths(lengths) = &mut case.fields[MORE + 3] else { unreachable!("the lengths of pair") };
     let old = lengths[3];
     lengths[3] = ROWS as u64 + 1;
     old != lengths[3]
@@ -503,12 +545,12 @@ fn spare_bit(list: &mut [u64], n: usize, random: &mut Random) -> bool {
 
 fn spare_x(case: &mut Case, random: &mut Random) -> bool {
     let n = n_of(case);
-    spare_bit(words(case, 1), n, random)
+    spare_bit(words(case, SET), n, random)
 }
 
 fn spare_z(case: &mut Case, random: &mut Random) -> bool {
     let n = n_of(case);
-    spare_bit(words(case, 2), n, random)
+    spare_bit(words(case, SET + 1), n, random)
 }
 
 fn second_spare_x(case: &mut Case, random: &mut Random) -> bool {
@@ -523,7 +565,7 @@ fn second_spare_z(case: &mut Case, random: &mut Random) -> bool {
 
 fn spare_in_state(case: &mut Case, random: &mut Random) -> bool {
     let n = n_of(case);
-    spare_bit(words(case, 5), n, random)
+    spare_bit(words(case, MORE + 1), n, random)
 }
 
 /// In the last X, where it does not make the X words fall.
@@ -558,46 +600,56 @@ fn spare_in_ket(case: &mut Case, _: &mut Random) -> bool {
 
 // ---- 5
 
-fn phase_to(list: &mut [u8], to: u8, random: &mut Random) -> bool {
-    if list.is_empty() {
-        return false;
+/// Sets a bit of the last phase word, where it has spare ones: there the first of them, or the last.
+fn spare_phase(case: &mut Case, at: usize, last: bool) -> bool {
+    let first = 2 * (m_of(case) % PHASES);
+    let to = if last { 63 } else { first };
+    match words(case, at + 2).last_mut() {
+        Some(word) if first > 0 => {
+            *word |= 1 << to;
+            true
+        }
+        _ => false,
     }
-    list[random.below(list.len())] = to;
-    true
 }
 
-fn phase_of_4(case: &mut Case, random: &mut Random) -> bool {
-    phase_to(bytes(case, 3), 4, random)
+fn spare_next_to_last_row(case: &mut Case, _: &mut Random) -> bool {
+    spare_phase(case, SET, false)
 }
 
-fn phase_of_255(case: &mut Case, random: &mut Random) -> bool {
-    phase_to(bytes(case, 3), 255, random)
+fn spare_last_bit(case: &mut Case, _: &mut Random) -> bool {
+    spare_phase(case, SET, true)
 }
 
-fn second_phase_of_4(case: &mut Case, random: &mut Random) -> bool {
+fn second_spare_next_to_last_row(case: &mut Case, _: &mut Random) -> bool {
     let at = second(case);
-    phase_to(bytes(case, at + 2), 4, random)
+    spare_phase(case, at, false)
+}
+
+fn second_spare_last_bit(case: &mut Case, _: &mut Random) -> bool {
+    let at = second(case);
+    spare_phase(case, at, true)
 }
 
 // ---- 6 and 7
 
 fn row_too_large(case: &mut Case, _: &mut Random) -> bool {
-    let m = bytes(case, 3).len() as u64;
-    set_number(case, 4, m)
+    let m = case.number(M);
+    set_number(case, MORE, m)
 }
 
 fn row_far_too_large(case: &mut Case, _: &mut Random) -> bool {
-    set_number(case, 4, 65535)
+    set_number(case, MORE, 65535)
 }
 
 fn second_row_too_large(case: &mut Case, _: &mut Random) -> bool {
-    let m = bytes(case, 3).len() as u64;
-    set_number(case, 5, m)
+    let m = case.number(M);
+    set_number(case, MORE + 1, m)
 }
 
 fn second_number_too_large(case: &mut Case, _: &mut Random) -> bool {
     let n = case.number(0);
-    set_number(case, 5, n.min(65535))
+    set_number(case, MORE + 1, n.min(65535))
 }
 
 fn into_list(case: &mut Case, i: usize, item: usize, random: &mut Random) -> bool {
@@ -610,15 +662,15 @@ fn into_list(case: &mut Case, i: usize, item: usize, random: &mut Random) -> boo
 fn column_too_large(case: &mut Case, random: &mut Random) -> bool {
     let n = n_of(case).min(30000);
     let by = random.pick(&[0, 0, 1, 64]);
-    into_list(case, 4, 2 * n + by, random)
+    into_list(case, MORE, 2 * n + by, random)
 }
 
 /// The field of the listed rows; the extra rows are the next one. `undo` has no order before them.
 fn listed_at(case: &Case) -> usize {
     if case.call == "undo" {
-        4
+        MORE
     } else {
-        5
+        MORE + 1
     }
 }
 
@@ -628,12 +680,12 @@ fn log_of(case: &mut Case) -> &mut Vec<u16> {
 }
 
 fn listed_too_large(case: &mut Case, random: &mut Random) -> bool {
-    let m = bytes(case, 3).len();
+    let m = m_of(case);
     into_list(case, listed_at(case), m, random)
 }
 
 fn extra_too_large(case: &mut Case, random: &mut Random) -> bool {
-    let m = bytes(case, 3).len();
+    let m = m_of(case);
     into_list(case, listed_at(case) + 1, m, random)
 }
 
@@ -642,7 +694,7 @@ fn listed_twice(case: &mut Case, random: &mut Random) -> bool {
 }
 
 fn column_twice(case: &mut Case, random: &mut Random) -> bool {
-    twice(case, 4, random)
+    twice(case, MORE, random)
 }
 
 /// An item of the list once more, at any place.
@@ -657,7 +709,7 @@ fn twice(case: &mut Case, i: usize, random: &mut Random) -> bool {
 
 /// The first column again, as the last.
 fn column_twice_at_ends(case: &mut Case, _: &mut Random) -> bool {
-    let order = shorts(case, 4);
+    let order = shorts(case, MORE);
     let first = order.first().copied();
     order.extend(first);
     first.is_some()
@@ -665,12 +717,17 @@ fn column_twice_at_ends(case: &mut Case, _: &mut Random) -> bool {
 
 // ---- 8 and 9, after 15
 
+/// Whether a set's lengths fit.
+fn fits(n: usize, set: &Set) -> bool {
+    let words = |part: &Vec<u64>| part.len() == set.m * words_for(n);
+    n <= QUBITS && set.m <= ROWS && words(&set.x) && words(&set.z) && set.p.len() == phase_words_for(set.m)
+}
+
 /// A log one entry too short, where the call is sound enough to know.
 fn log_short(case: &mut Case, _: &mut Random) -> bool {
     let n = n_of(case);
-    let set = Set { x: case.words(1).to_vec(), z: case.words(2).to_vec(), p: case.bytes(3).to_vec() };
-    let fits = n <= QUBITS && [&set.x, &set.z].iter().all(|part| part.len() == set.p.len() * words_for(n));
-    if !fits || set.p.iter().any(|p| *p > 3) {
+    let set = set_at(case, SET);
+    if !fits(n, &set) {
         return false;
     }
     let needed = needed(case, n, &set);
@@ -679,12 +736,12 @@ fn log_short(case: &mut Case, _: &mut Random) -> bool {
 }
 
 fn needed(case: &Case, n: usize, set: &Set) -> usize {
-    let (order, listed): (Vec<u16>, Vec<u16>) = ((0..2 * n as u16).collect(), (0..set.p.len() as u16).collect());
+    let (order, listed): (Vec<u16>, Vec<u16>) = ((0..2 * n as u16).collect(), (0..set.m as u16).collect());
     let lists = match case.call {
-        "reduce" => Lists { order: case.shorts(4), listed: case.shorts(5), extra: case.shorts(6) },
+        "reduce" => Lists { order: case.shorts(MORE), listed: case.shorts(MORE + 1), extra: case.shorts(MORE + 2) },
         _ => Lists { order: &order, listed: &listed, extra: &[] },
     };
-    let rows = |list: &[u16]| list.iter().all(|row| (*row as usize) < set.p.len());
+    let rows = |list: &[u16]| list.iter().all(|row| (*row as usize) < set.m);
     let columns = lists.order.iter().all(|column| (*column as usize) < 2 * n);
     if !columns || !rows(lists.listed) || !rows(lists.extra) {
         return 0;
@@ -769,7 +826,7 @@ fn sum_too_large(case: &mut Case, random: &mut Random) -> bool {
 /// Qubit n; of a controlled-X the control.
 fn qubit_of_n(case: &mut Case, _: &mut Random) -> bool {
     let n = case.number(0);
-    let gate = match case.gate(4) {
+    let gate = match case.gate(MORE) {
         Gate::H(_) => Gate::H(n),
         Gate::S(_) => Gate::S(n),
         Gate::CX(_, t) => Gate::CX(n, t),
@@ -780,7 +837,7 @@ fn qubit_of_n(case: &mut Case, _: &mut Random) -> bool {
 /// Of a controlled-X the target.
 fn last_qubit_far_too_large(case: &mut Case, random: &mut Random) -> bool {
     let q = random.pick(&[1 << 16, u64::MAX, 1 << 63]);
-    let gate = match case.gate(4) {
+    let gate = match case.gate(MORE) {
         Gate::H(_) => Gate::H(q),
         Gate::S(_) => Gate::S(q),
         Gate::CX(c, _) => Gate::CX(c, q),
@@ -790,14 +847,14 @@ fn last_qubit_far_too_large(case: &mut Case, random: &mut Random) -> bool {
 
 /// On top of a qubit that is too large it is the same one twice, and still 6.
 fn one_qubit_twice(case: &mut Case, _: &mut Random) -> bool {
-    match case.gate(4) {
+    match case.gate(MORE) {
         Gate::H(q) | Gate::S(q) | Gate::CX(q, _) => set_gate(case, Gate::CX(q, q)),
     }
 }
 
 fn set_gate(case: &mut Case, gate: Gate) -> bool {
-    let changed = case.gate(4) != gate;
-    case.fields[4] = Field::Gate(gate);
+    let changed = case.gate(MORE) != gate;
+    case.fields[MORE] = Field::Gate(gate);
     changed
 }
 
@@ -805,16 +862,16 @@ fn set_gate(case: &mut Case, gate: Gate) -> bool {
 
 /// An output a byte shorter than the text.
 fn text_not_lent(case: &mut Case, _: &mut Random) -> bool {
-    let (n, row) = (n_of(case), case.number(4) as usize);
-    let set = Set { x: case.words(1).to_vec(), z: case.words(2).to_vec(), p: case.bytes(3).to_vec() };
-    let fits = n <= QUBITS && [&set.x, &set.z].iter().all(|part| part.len() == set.p.len() * words_for(n));
-    let length = if fits { unpacked(n, &set).get(row).map_or(0, |row| texts::written(&row.paulis).len()) } else { 0 };
-    length > 0 && set_number(case, 5, length as u64 - 1)
+    let (n, row) = (n_of(case), case.number(MORE) as usize);
+    let set = set_at(case, SET);
+    let length =
+        if fits(n, &set) { unpacked(n, &set).get(row).map_or(0, |row| texts::written(&row.paulis).len()) } else { 0 };
+    length > 0 && set_number(case, MORE + 1, length as u64 - 1)
 }
 
 /// The text with something put at its front or at its end.
 fn put_into_text(case: &mut Case, at_front: bool, bytes: &[u8]) -> bool {
-    match &mut case.fields[5] {
+    match &mut case.fields[MORE + 1] {
         Field::Text(text) | Field::TextBytes(text) => {
             *text = if at_front { [bytes, text].concat() } else { [text, bytes].concat() };
         }
@@ -833,7 +890,7 @@ fn text_with_space_behind(case: &mut Case, _: &mut Random) -> bool {
 
 /// One Pauli more, behind the others.
 fn more_text(case: &mut Case, pauli: &str) -> bool {
-    let space = if case.text(5).is_empty() { "" } else { " " };
+    let space = if case.text(MORE + 1).is_empty() { "" } else { " " };
     put_into_text(case, false, format!("{space}{pauli}").as_bytes())
 }
 
@@ -854,7 +911,7 @@ fn text_with_zero_before(case: &mut Case, _: &mut Random) -> bool {
 
 /// The last Pauli twice.
 fn text_repeated(case: &mut Case, _: &mut Random) -> bool {
-    let text = String::from_utf8_lossy(case.text(5)).into_owned();
+    let text = String::from_utf8_lossy(case.text(MORE + 1)).into_owned();
     match text.rsplit(' ').next() {
         Some(last) if !last.is_empty() => more_text(case, last),
         _ => false,

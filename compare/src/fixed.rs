@@ -5,9 +5,9 @@ use crate::limits::{QUBITS, ROWS, TERMS, WORDS_IN_REACH};
 use crate::line::{is_case, joined, Case, Field, CALLS};
 use crate::model;
 use crate::random::Random;
-use crate::rows::{packed, words_for, Pauli, Row, Set};
+use crate::rows::{packed, Pauli, Row, Set};
 use crate::small::{over_sets, plain_terms, singles_and_pairs};
-use crate::{engines, forms, malformed, states, texts, undoing, valid};
+use crate::{engines, forms, malformed, phases, states, texts, undoing, valid};
 
 /// Writes the list and its answers; the number of cases where Rust and model differ, and of the Rust's faults.
 pub fn write(oracle: Option<Vec<String>>, cases: &str, answers: &str) -> usize {
@@ -56,6 +56,7 @@ fn list() -> Vec<String> {
     gates(&mut out);
     many_vectors(&mut out);
     texts(&mut out);
+    phases(&mut out);
     edges_of_the_form(&mut out);
     out
 }
@@ -70,27 +71,27 @@ fn numbers_at_each_end(out: &mut Vec<String>) {
         out,
         "P1 to P3: XY, YX, ZX",
         &[
-            "phase 1 1,1 0,1 0,0 0 1",
-            "imul 1 1,1 0,1 0,0 0 1",
-            "imul 1 1,1 1,0 0,0 0 1",
-            "imul 1 0,1 1,0 0,0 0 1",
+            "phase 1 2 1,1 0,1 0 0 1",
+            "imul 1 2 1,1 0,1 0 0 1",
+            "imul 1 2 1,1 1,0 0 0 1",
+            "imul 1 2 0,1 1,0 0 0 1",
             "phase1 1 0 1 1",
             "phase1 1 1 1 0",
             "phase1 0 1 1 0",
         ],
     );
-    group(out, "P4, P5: Y and Z on 1", &["act 1 1 1 0 0 1", "act 1 0 1 0 0 1", "act1 1 1 1", "act1 0 1 1"]);
-    group(out, "P6: the identity counted", &["count 65 0,0 0,0 0 0", "count 64 0 0 0 0", "count 0 - - 0 0"]);
+    group(out, "P4, P5: Y and Z on 1", &["act 1 1 1 1 0 0 1", "act 1 1 0 1 0 0 1", "act1 1 1 1", "act1 0 1 1"]);
+    group(out, "P6: the identity counted", &["count 65 1 0,0 0,0 0 0", "count 64 1 0 0 0 0", "count 0 1 - - 0 0"]);
     group(
         out,
         "P7: XX against ZZ, XI against ZZ",
-        &["comm 2 3,0 0,3 0,0 0 1", "comm 2 1,0 0,3 0,0 0 1", "matrix 2 3,0,1 0,3,0 0,0,0 3"],
+        &["comm 2 2 3,0 0,3 0 0 1", "comm 2 2 1,0 0,3 0 0 1", "matrix 2 3 3,0,1 0,3,0 0 3"],
     );
-    group(out, "P8: a row squared", &["imul 1 1 0 3 0 0"]);
+    group(out, "P8: a row squared", &["imul 1 1 1 0 3 0 0"]);
     out.push("# P9, P10: lengths of the log from none to more than needed".to_string());
     for units in [0, 1, 2, 3, 11, 12, 13, 14, 15, 16, 17, 100] {
-        out.push(format!("reduce 2 0,3,1 1,0,1 0,0,0 0,1,2,3 0,1,2 - {units}"));
-        out.push(format!("reduceall 2 0,3,1 1,0,1 0,0,0 {units}"));
+        out.push(format!("reduce 2 3 0,3,1 1,0,1 0 0,1,2,3 0,1,2 - {units}"));
+        out.push(format!("reduceall 2 3 0,3,1 1,0,1 0 {units}"));
     }
     group(
         out,
@@ -161,7 +162,7 @@ fn edges(out: &mut Vec<String>) {
     let mut random = Random::of(1, 0);
     for n in [0, 1, 63, 64, 65, QUBITS, QUBITS + 1] {
         let rows = valid::rows(&mut random, n, 3);
-        for (call, kinds) in CALLS.iter().filter(|call| call.1.starts_with("nWWB")) {
+        for (call, kinds) in CALLS.iter().filter(|call| call.1.starts_with("nnWWP")) {
             let few = kinds.contains('S') && n > 100;
             let rows = if few { rows[..1].to_vec() } else { rows.clone() };
             let cases = if n > 100 { 1 } else { 3 };
@@ -185,22 +186,22 @@ fn reductions(out: &mut Vec<String>) {
         out,
         "repeated columns: 15 against 1 to 8; X and Z of one qubit are two columns",
         &[
-            "reduce 2 0,3,1 1,0,1 0,0,0 0,0,1,1,2,3,0,1,2,3 0,1,2 - 100",
-            "reduce 1 1,1 0,1 0,0 0,0,0 0,1 - 100",
-            "reduce 2 3,3,3 0,1,2 1,2,3 1,1 2,0,1 - 100",
-            "reduce 2 0,3,1 1,0,1 0,0,0 0,2,1,3 0,1,2 - 100",
-            "reduce 4097 - - - 0,0 - - 0",
-            "reduce 2 0,3 1,0,1 0,0,0 0,0 0,1,2 - 100",
-            "reduce 2 4,3,1 1,0,1 0,0,0 0,0 0,1,2 - 100",
-            "reduce 2 0,3,1 1,0,1 0,4,0 0,0 0,1,2 - 100",
-            "reduce 2 0,3,1 1,0,1 0,0,0 4,4 0,1,2 - 100",
-            "reduce 2 0,3,1 1,0,1 0,0,0 0,0,4 0,1,2 - 100",
-            "reduce 2 0,3,1 1,0,1 0,0,0 0,0 0,3,2 - 100",
-            "reduce 2 0,3,1 1,0,1 0,0,0 0,0 0,1,2 3 100",
-            "reduce 2 0,3,1 1,0,1 0,0,0 0,0 2,2 - 100",
-            "reduce 2 0,3,1 1,0,1 0,0,0 0,0,1,2,3 0,1,2 - 12",
-            "reduce 2 0,3,1 1,0,1 0,0,0 0,1,2,3,3 0,1,2 - 0",
-            "reduce 0 - - 1,2,3 0,0 2,0,1 - 0",
+            "reduce 2 3 0,3,1 1,0,1 0 0,0,1,1,2,3,0,1,2,3 0,1,2 - 100",
+            "reduce 1 2 1,1 0,1 0 0,0,0 0,1 - 100",
+            "reduce 2 3 3,3,3 0,1,2 39 1,1 2,0,1 - 100",
+            "reduce 2 3 0,3,1 1,0,1 0 0,2,1,3 0,1,2 - 100",
+            "reduce 4097 0 - - - 0,0 - - 0",
+            "reduce 2 3 0,3 1,0,1 0 0,0 0,1,2 - 100",
+            "reduce 2 3 4,3,1 1,0,1 0 0,0 0,1,2 - 100",
+            "reduce 2 3 0,3,1 1,0,1 40 0,0 0,1,2 - 100",
+            "reduce 2 3 0,3,1 1,0,1 0 4,4 0,1,2 - 100",
+            "reduce 2 3 0,3,1 1,0,1 0 0,0,4 0,1,2 - 100",
+            "reduce 2 3 0,3,1 1,0,1 0 0,0 0,3,2 - 100",
+            "reduce 2 3 0,3,1 1,0,1 0 0,0 0,1,2 3 100",
+            "reduce 2 3 0,3,1 1,0,1 0 0,0 2,2 - 100",
+            "reduce 2 3 0,3,1 1,0,1 0 0,0,1,2,3 0,1,2 - 12",
+            "reduce 2 3 0,3,1 1,0,1 0 0,1,2,3,3 0,1,2 - 0",
+            "reduce 0 3 - - 39 0,0 2,0,1 - 0",
         ],
     );
     out.push("# a column named once more, at every place".to_string());
@@ -208,54 +209,54 @@ fn reductions(out: &mut Vec<String>) {
         for place in 0..=4 {
             let mut order = vec![0, 1, 2, 3];
             order.insert(place, column);
-            out.push(format!("reduce 2 0,3,1 1,0,1 0,0,0 {} 0,1,2 - 100", crate::line::joined(&order)));
+            out.push(format!("reduce 2 3 0,3,1 1,0,1 0 {} 0,1,2 - 100", crate::line::joined(&order)));
         }
     }
     group(
         out,
         "listed rows among the extra ones, extra rows repeated",
         &[
-            "reduce 2 0,3,1 1,0,1 0,0,0 0,1,2,3 0,1 0,1,2 100",
-            "reduce 2 0,3,1 1,0,1 0,0,0 0,1,2,3 0,1 2,2,2 100",
-            "reduce 2 1,1,1 0,0,3 0,0,0 0,2 1 1,1,0,2,0,2 100",
-            "reduce 2 1,1,1 0,0,3 0,0,0 0,2 - 0,1,2 100",
-            "reduce 1 1,1 0,1 0,1 0,1 1 1,0,1,0 100",
+            "reduce 2 3 0,3,1 1,0,1 0 0,1,2,3 0,1 0,1,2 100",
+            "reduce 2 3 0,3,1 1,0,1 0 0,1,2,3 0,1 2,2,2 100",
+            "reduce 2 3 1,1,1 0,0,3 0 0,2 1 1,1,0,2,0,2 100",
+            "reduce 2 3 1,1,1 0,0,3 0 0,2 - 0,1,2 100",
+            "reduce 1 2 1,1 0,1 4 0,1 1 1,0,1,0 100",
         ],
     );
     group(
         out,
         "empty order, empty lists, no rows, no qubits",
         &[
-            "reduce 2 0,3,1 1,0,1 0,0,0 - 0,1,2 - 100",
-            "reduce 2 0,3,1 1,0,1 0,0,0 0,1,2,3 - - 100",
-            "reduce 2 0,3,1 1,0,1 0,0,0 - - - 0",
-            "reduce 2 - - - 0,1,2,3 - - 0",
-            "reduce 0 - - 1,2,3 - 2,0,1 0,0 0",
-            "reduce 0 - - 1,2,3 0 2,0,1 - 0",
-            "reduceall 0 - - 1,2,3 0",
-            "reduceall 0 - - - 0",
-            "reduceall 2 - - - 5",
-            "reduceall 2 0,0 0,0 1,2 0",
+            "reduce 2 3 0,3,1 1,0,1 0 - 0,1,2 - 100",
+            "reduce 2 3 0,3,1 1,0,1 0 0,1,2,3 - - 100",
+            "reduce 2 3 0,3,1 1,0,1 0 - - - 0",
+            "reduce 2 0 - - - 0,1,2,3 - - 0",
+            "reduce 0 3 - - 39 - 2,0,1 0,0 0",
+            "reduce 0 3 - - 39 0 2,0,1 - 0",
+            "reduceall 0 3 - - 39 0",
+            "reduceall 0 0 - - - 0",
+            "reduceall 2 0 - - - 5",
+            "reduceall 2 2 0,0 0,0 9 0",
         ],
     );
     group(
         out,
         "numbers too large, a listed row repeated",
         &[
-            "reduce 2 0,3,1 1,0,1 0,0,0 0,4 0,1,2 - 100",
-            "reduce 2 0,3,1 1,0,1 0,0,0 0,1 0,3,2 - 100",
-            "reduce 2 0,3,1 1,0,1 0,0,0 0,1 0,1,2 3 100",
-            "reduce 2 0,3,1 1,0,1 0,0,0 0,65535 0,1,2 - 100",
-            "reduce 2 0,3,1 1,0,1 0,0,0 0,1 0,1,0 - 100",
-            "reduce 2 0,3,1 1,0,1 0,0,0 0,1 2,2 - 0",
-            "reduce 2 0,3,1 1,0,1 0,0,0 - 2,2 - 0",
+            "reduce 2 3 0,3,1 1,0,1 0 0,4 0,1,2 - 100",
+            "reduce 2 3 0,3,1 1,0,1 0 0,1 0,3,2 - 100",
+            "reduce 2 3 0,3,1 1,0,1 0 0,1 0,1,2 3 100",
+            "reduce 2 3 0,3,1 1,0,1 0 0,65535 0,1,2 - 100",
+            "reduce 2 3 0,3,1 1,0,1 0 0,1 0,1,0 - 100",
+            "reduce 2 3 0,3,1 1,0,1 0 0,1 2,2 - 0",
+            "reduce 2 3 0,3,1 1,0,1 0 - 2,2 - 0",
         ],
     );
 }
 
-const START: &str = "2 0,3,1 1,0,1 0,0,0 0,1,2,3 0,1,2 -";
+const START: &str = "2 3 0,3,1 1,0,1 0 0,1,2,3 0,1,2 -";
 const LOG: [u16; 14] = [0, 1, 1, 0, 2, 0, 1, 2, 0, 1, 2, 1, 1, 2];
-const CLAIM: &str = "1,2,0 0,0,1 1,3,0";
+const CLAIM: &str = "1,2,0 0,0,1 d";
 
 fn check_of(log: &[u16], claim: &str) -> String {
     format!("check {START} {} {claim}", crate::line::joined(log))
@@ -287,62 +288,62 @@ fn checks(out: &mut Vec<String>) {
         out,
         "a bit or a phase of the claim changed",
         &[
-            &check_of(&LOG, "0,2,0 0,0,1 1,3,0"),
-            &check_of(&LOG, "1,2,0 0,1,1 1,3,0"),
-            &check_of(&LOG, "1,2,0 0,0,0 1,3,0"),
-            &check_of(&LOG, "1,2,0 0,0,1 0,3,0"),
-            &check_of(&LOG, "1,2,0 0,0,1 1,1,0"),
-            &check_of(&LOG, "1,2,0 0,0,1 1,3,1"),
-            &check_of(&LOG, "1,2,0 0,0,1 1,3,4"),
-            &check_of(&LOG, "1,2,4 0,0,1 1,3,0"),
-            &check_of(&LOG, "1,2 0,0 1,3"),
+            &check_of(&LOG, "0,2,0 0,0,1 d"),
+            &check_of(&LOG, "1,2,0 0,1,1 d"),
+            &check_of(&LOG, "1,2,0 0,0,0 d"),
+            &check_of(&LOG, "1,2,0 0,0,1 c"),
+            &check_of(&LOG, "1,2,0 0,0,1 5"),
+            &check_of(&LOG, "1,2,0 0,0,1 1d"),
+            &check_of(&LOG, "1,2,0 0,0,1 4d"),
+            &check_of(&LOG, "1,2,4 0,0,1 d"),
+            &check_of(&LOG, "1,2 0,0 d"),
         ],
     );
     group(
         out,
         "not reduced; rows outside of both lists; a pivot row among the extra ones",
         &[
-            "check 2 0,3,1 1,0,1 0,0,0 0,1,2,3 0,1,2 - - 0,3,1 1,0,1 0,0,0",
-            "check 1 1,1 0,0 0,0 0 0 1 - 1,1 0,0 0,0",
-            "check 1 1,1 0,0 0,0 0 0 - - 1,1 0,0 0,0",
-            "check 1 1,1 0,0 0,0 0 0 0 - 1,1 0,0 0,0",
-            "check 1 1,1 0,0 0,3 0 0 1 1,0 1,0 0,0 0,3",
-            "check 1 1,1 0,0 0,3 0 0 1 0,1 1,0 0,0 0,3",
-            "check 1 1,1 0,0 0,3 0 0,1 - 1,0 1,0 0,0 0,3",
-            "check 1 1,0 0,1 0,3 0,1 1,0 - - 1,0 0,1 0,3",
-            "check 1 1,0 0,1 0,3 1,0 1,0 - - 1,0 0,1 0,3",
-            "check 1 1,0 0,1 0,3 0,0,1 0,1 - - 1,0 0,1 0,3",
-            "check 1 1,0 0,1 0,3 1,1,0 0,1 - - 1,0 0,1 0,3",
-            "check 2 1,1,1 0,0,3 0,0,0 0,2 1 1,1,0,2,0,2 0,1,2,1 0,1,0 0,0,3 0,0,0",
+            "check 2 3 0,3,1 1,0,1 0 0,1,2,3 0,1,2 - - 0,3,1 1,0,1 0",
+            "check 1 2 1,1 0,0 0 0 0 1 - 1,1 0,0 0",
+            "check 1 2 1,1 0,0 0 0 0 - - 1,1 0,0 0",
+            "check 1 2 1,1 0,0 0 0 0 0 - 1,1 0,0 0",
+            "check 1 2 1,1 0,0 c 0 0 1 1,0 1,0 0,0 c",
+            "check 1 2 1,1 0,0 c 0 0 1 0,1 1,0 0,0 c",
+            "check 1 2 1,1 0,0 c 0 0,1 - 1,0 1,0 0,0 c",
+            "check 1 2 1,0 0,1 c 0,1 1,0 - - 1,0 0,1 c",
+            "check 1 2 1,0 0,1 c 1,0 1,0 - - 1,0 0,1 c",
+            "check 1 2 1,0 0,1 c 0,0,1 0,1 - - 1,0 0,1 c",
+            "check 1 2 1,0 0,1 c 1,1,0 0,1 - - 1,0 0,1 c",
+            "check 2 3 1,1,1 0,0,3 0 0,2 1 1,1,0,2,0,2 0,1,2,1 0,1,0 0,0,3 0",
         ],
     );
     group(
         out,
         "no qubits, no rows, empty lists",
         &[
-            "check 0 - - 1,2 - 0,1 - 0,1 - - 3,2",
-            "check 0 - - 1,2 - 0,1 - 0,1 - - 1,2",
-            "check 0 - - - - - - - - - -",
-            "check 2 - - - 0,1 - - - - - -",
-            "check 2 1 1 0 - - - - 1 1 0",
-            "check 2 1 1 0 - - - 0,0 1 1 0",
-            "check 2 1 1 0 - 0,0 - 0 1 1 0",
-            "check 2 1 1 0 4 0 - 0 1 1 0",
+            "check 0 2 - - 9 - 0,1 - 0,1 - - b",
+            "check 0 2 - - 9 - 0,1 - 0,1 - - 9",
+            "check 0 0 - - - - - - - - - -",
+            "check 2 0 - - - 0,1 - - - - - -",
+            "check 2 1 1 1 0 - - - - 1 1 0",
+            "check 2 1 1 1 0 - - - 0,0 1 1 0",
+            "check 2 1 1 1 0 - 0,0 - 0 1 1 0",
+            "check 2 1 1 1 0 4 0 - 0 1 1 0",
         ],
     );
     group(
         out,
         "a column twice: 15 against 3 and 5 of the claim, 6, 7, 9 and a bad entry",
         &[
-            "check 1 1,0 0,1 0,0 0,0 0,1 - 0 1,0 0,1 0,0",
-            "check 1 1,0 0,1 0,0 0,1,0 0,1 - - 1,0 0,1 0,0",
-            "check 1 1,0 0,1 0,0 1,1 0,1 - 0,0 1,0 0,1 0,0",
-            "check 1 1,0 0,1 0,0 0,0 0,1 - 0 1 0 0",
-            "check 1 1,0 0,1 0,0 0,0 0,1 - 0 1,0 0,1 0,4",
-            "check 1 1,0 0,1 0,0 2,2 0,1 - 0 1,0 0,1 0,0",
-            "check 1 1,0 0,1 0,0 0,0 0,2 - 0 1,0 0,1 0,0",
-            "check 1 1,0 0,1 0,0 0,0 0,0 - 0 1,0 0,1 0,0",
-            "check 1 1,0 0,1 0,0 0,1 0,1 - 0 1,0 0,1 0,0",
+            "check 1 2 1,0 0,1 0 0,0 0,1 - 0 1,0 0,1 0",
+            "check 1 2 1,0 0,1 0 0,1,0 0,1 - - 1,0 0,1 0",
+            "check 1 2 1,0 0,1 0 1,1 0,1 - 0,0 1,0 0,1 0",
+            "check 1 2 1,0 0,1 0 0,0 0,1 - 0 1 0 0",
+            "check 1 2 1,0 0,1 0 0,0 0,1 - 0 1,0 0,1 10",
+            "check 1 2 1,0 0,1 0 2,2 0,1 - 0 1,0 0,1 0",
+            "check 1 2 1,0 0,1 0 0,0 0,2 - 0 1,0 0,1 0",
+            "check 1 2 1,0 0,1 0 0,0 0,0 - 0 1,0 0,1 0",
+            "check 1 2 1,0 0,1 0 0,1 0,1 - 0 1,0 0,1 0",
         ],
     );
 }
@@ -517,9 +518,7 @@ fn last_ones(out: &mut Vec<String>) {
     }
     out.push(with_numbers("reduceall", QUBITS, &set(&[Pauli::Z, Pauli::Z]), &[4]));
     for letter in [Pauli::X, Pauli::Z] {
-        let claim = set(&[letter]);
-        let claim = vec![Field::Words(claim.x), Field::Words(claim.z), Field::Bytes(claim.p)];
-        let more = [vec![Field::Shorts(vec![]); 4], claim].concat();
+        let more = [vec![Field::Shorts(vec![]); 4], valid::further(&set(&[letter]))].concat();
         out.push(valid::call_on("check", QUBITS, &set(&[Pauli::I]), more).line());
     }
     for (call, m, number) in [("central", ROWS, 0), ("matrix", 512, 4096)] {
@@ -542,13 +541,13 @@ fn last_ones(out: &mut Vec<String>) {
 
 /// Pairwise products of rows with phases: the two of RULES 11.7, and for four pairs of letters all sixteen pairs of phases.
 fn signed_pairs(out: &mut Vec<String>) {
-    group(out, "pairs with phases", &["pair 1 1 0 3 1 1 2 1,1,1,1", "pair 0 - - 1 - - 0 0,0,1,1"]);
+    group(out, "pairs with phases", &["pair 1 1 1 0 3 1 1 2 1,1,1,1", "pair 0 1 - - 1 - - 0 0,0,1,1"]);
     let rows = |letter: Pauli, phase: fn(u8) -> u8| -> Set {
         packed(1, &(0..16).map(|code| Row { paulis: vec![letter], phase: phase(code) }).collect::<Vec<_>>())
     };
     for (l, r) in [(Pauli::I, Pauli::I), (Pauli::X, Pauli::Y), (Pauli::Y, Pauli::X), (Pauli::Z, Pauli::Z)] {
         let right = rows(r, |code| code % 4);
-        let more = vec![Field::Words(right.x), Field::Words(right.z), Field::Bytes(right.p), Field::Lengths([16; 4])];
+        let more = [valid::further(&right), vec![valid::lengths_of(&right)]].concat();
         out.push(valid::call_on("pair", 1, &rows(l, |code| code / 4), more).line());
     }
 }
@@ -559,18 +558,18 @@ fn clashes(out: &mut Vec<String>) {
         out,
         "clashes: of two rows in either order, of a row by itself; numbers of another length alone",
         &[
-            "imul 4 f,a c,6 0,0 0 1",
-            "imul 4 f,a c,6 0,0 1 0",
-            "imul 2 3,1 3,2 1,2 0 0",
-            "pair 2 3,1,0 3,2,1 0,0,0 3,0,1 3,2,0 0,0,0 3,3,3,3",
-            "pair 1 1 0 0 0 1 0 1,1,1,1",
-            "pair 1 1 0 0 0 1 0 1,1,1,0",
-            "pair 1 1 0 0 0 1 0 1,1,1,2",
-            "pair 1 1 0 0 0 1 0 1,1,1,4097",
-            "pair 0 - - - - - - 0,0,0,0",
-            "pair 0 - - - - - - 0,0,0,1",
-            "pair 1 1 0 0 0 1 0 1,1,1",
-            "pair 1 1 0 0 0 1 0 1,1,1,1,1",
+            "imul 4 2 f,a c,6 0 0 1",
+            "imul 4 2 f,a c,6 0 1 0",
+            "imul 2 2 3,1 3,2 9 0 0",
+            "pair 2 3 3,1,0 3,2,1 0 3,0,1 3,2,0 0 3,3,1,3",
+            "pair 1 1 1 0 0 0 1 0 1,1,1,1",
+            "pair 1 1 1 0 0 0 1 0 1,1,1,0",
+            "pair 1 1 1 0 0 0 1 0 1,1,1,2",
+            "pair 1 1 1 0 0 0 1 0 1,1,1,4097",
+            "pair 0 0 - - - - - - 0,0,0,0",
+            "pair 0 0 - - - - - - 0,0,0,1",
+            "pair 1 1 1 0 0 0 1 0 1,1,1",
+            "pair 1 1 1 0 0 0 1 0 1,1,1,1,1",
         ],
     );
     let all = |letter: Pauli| Row { paulis: vec![letter; QUBITS], phase: 0 };
@@ -579,8 +578,7 @@ fn clashes(out: &mut Vec<String>) {
         out.push(with_numbers("imul", QUBITS, &rows, &[a, b]));
     }
     let right = packed(QUBITS, &[all(Pauli::Y), all(Pauli::Z), all(Pauli::I)]);
-    let lengths = Field::Lengths([3 * words_for(QUBITS) as u64, 3 * words_for(QUBITS) as u64, 3, 3]);
-    let more = vec![Field::Words(right.x), Field::Words(right.z), Field::Bytes(right.p), lengths];
+    let more = [valid::further(&right), vec![valid::lengths_of(&right)]].concat();
     out.push(valid::call_on("pair", QUBITS, &rows, more).line());
 }
 
@@ -634,20 +632,20 @@ fn engines(out: &mut Vec<String>) {
 
 /// P9's and P10's rows walked back to their start, from there again, and damaged logs; random ones.
 fn walked_back(out: &mut Vec<String>) {
-    let rows = |rows: &str, log: &[u16]| format!("undo 2 {rows} 0,1,2 - {}", joined(log));
+    let rows = |rows: &str, log: &[u16]| format!("undo 2 3 {rows} 0,1,2 - {}", joined(log));
     group(
         out,
         "walking back P9 and P10; from the starting rows; an empty log; no rows, no qubits",
         &[
             &rows(CLAIM, &LOG),
-            &rows("1,2,0 0,1,1 1,3,0", &LOG[..12]),
-            &rows("0,3,1 1,0,1 0,0,0", &LOG),
+            &rows("1,2,0 0,1,1 d", &LOG[..12]),
+            &rows("0,3,1 1,0,1 0", &LOG),
             &rows(CLAIM, &[]),
-            "undo 2 - - - - - -",
-            "undo 0 - - 1,2,3 0,1 2 2,1,0,1",
-            "undo 1 1,0 0,1 3,1 0 1 1,0",
-            "undo 1 1,0 0,1 3,1 0 1,1 0,1",
-            "undo 2 1,2,0 0,0,1 1,3,0 0,1,2 - 0:1,1:0,2:0,1:2,0:1,2:1,1:2",
+            "undo 2 0 - - - - - -",
+            "undo 0 3 - - 39 0,1 2 2,1,0,1",
+            "undo 1 2 1,0 0,1 7 0 1 1,0",
+            "undo 1 2 1,0 0,1 7 0 1,1 0,1",
+            "undo 2 3 1,2,0 0,0,1 d 0,1,2 - 0:1,1:0,2:0,1:2,0:1,2:1,1:2",
         ],
     );
     out.push("# each unit of the log changed".to_string());
@@ -663,11 +661,11 @@ fn walked_back(out: &mut Vec<String>) {
         "an odd log; numbers too large; a listed row twice, with a log of odd length and with 4 and 5",
         &[
             &rows(CLAIM, &LOG[..13]),
-            "undo 2 1,2,0 0,0,1 1,3,0 0,3 - 0,1",
-            "undo 2 1,2,0 0,0,1 1,3,0 0,1 3 0,1",
-            "undo 2 1,2,0 0,0,1 1,3,0 0,0 - 0",
-            "undo 2 1,2,0 0,0,1 1,3,4 0,0 - 0",
-            "undo 2 1,2,4 0,0,1 1,3,0 0,0 - 0",
+            "undo 2 3 1,2,0 0,0,1 d 0,3 - 0,1",
+            "undo 2 3 1,2,0 0,0,1 d 0,1 3 0,1",
+            "undo 2 3 1,2,0 0,0,1 d 0,0 - 0",
+            "undo 2 3 1,2,0 0,0,1 4d 0,0 - 0",
+            "undo 2 3 1,2,4 0,0,1 d 0,0 - 0",
         ],
     );
     let mut random = Random::of(6, 0);
@@ -697,6 +695,20 @@ fn texts(out: &mut Vec<String>) {
     texts::at_each_end(&mut |line| out.extend(Some(line).filter(|line| printable(line))));
 }
 
+/// Those that a file has room for.
+fn phases(out: &mut Vec<String>) {
+    out.push(
+        "# phases at the ends of words: m = 0, 1, 31 to 33, 63 to 65, 4,095 to 4,097; spare bits; carries".to_string(),
+    );
+    let mut long = 0;
+    phases::all(&[1], &mut |line| {
+        long += (line.len() > 600) as usize;
+        if line.len() <= 600 || (line.len() < 6000 && long % 8 == 1) {
+            out.push(line);
+        }
+    });
+}
+
 fn printable(line: &str) -> bool {
     line.bytes().all(|byte| matches!(byte, b' '..=b'~' | b'\t'))
 }
@@ -707,48 +719,48 @@ fn gates(out: &mut Vec<String>) {
         out,
         "docs/GATES.md: gates, reduction, check, gates back, and the log from the start",
         &[
-            "gate 2 0,3,1 1,0,1 0,0,0 h 0",
-            "gate 2 1,2,1 0,1,1 0,0,2 cx 0 1",
-            "gate 2 3,2,3 0,1,1 0,0,2 s 1",
-            "matrix 2 3,2,3 2,3,3 0,0,2 3",
-            "reduceall 2 3,2,3 2,3,3 0,0,2 8",
-            "check 2 3,2,3 2,3,3 0,0,2 0,1,2,3 0,1,2 - 2,0,0,1,0,2,1,2 1,2,0 0,2,1 1,1,1",
-            "gate 2 1,2,0 0,2,1 1,1,1 s 1",
-            "gate 2 1,2,0 0,0,1 1,3,1 s 1",
-            "gate 2 1,2,0 0,2,1 1,3,1 s 1",
-            "gate 2 1,2,0 0,0,1 1,1,1 cx 0 1",
-            "gate 2 3,2,0 0,0,1 1,1,1 h 0",
-            "check 2 0,3,1 1,0,1 0,0,0 0,1,2,3 0,1,2 - 2,0,0,1,0,2,1,2 2,2,1 1,0,0 1,1,1",
+            "gate 2 3 0,3,1 1,0,1 0 h 0",
+            "gate 2 3 1,2,1 0,1,1 20 cx 0 1",
+            "gate 2 3 3,2,3 0,1,1 20 s 1",
+            "matrix 2 3 3,2,3 2,3,3 20 3",
+            "reduceall 2 3 3,2,3 2,3,3 20 8",
+            "check 2 3 3,2,3 2,3,3 20 0,1,2,3 0,1,2 - 2,0,0,1,0,2,1,2 1,2,0 0,2,1 15",
+            "gate 2 3 1,2,0 0,2,1 15 s 1",
+            "gate 2 3 1,2,0 0,0,1 1d s 1",
+            "gate 2 3 1,2,0 0,2,1 1d s 1",
+            "gate 2 3 1,2,0 0,0,1 15 cx 0 1",
+            "gate 2 3 3,2,0 0,0,1 15 h 0",
+            "check 2 3 0,3,1 1,0,1 0 0,1,2,3 0,1,2 - 2,0,0,1,0,2,1,2 2,2,1 1,0,0 15",
         ],
     );
     group(
         out,
         "every Pauli, and every two",
         &[
-            "gate 1 0,1,1,0 0,0,1,1 0,1,2,3 h 0",
-            "gate 1 0,1,1,0 0,0,1,1 0,1,2,3 s 0",
-            "gate 2 0,1,1,0,2,3,3,2,2,3,3,2,0,1,1,0 0,0,1,1,0,0,1,1,2,2,3,3,2,2,3,3 0,1,2,3,0,1,2,3,0,1,2,3,0,1,2,3 cx 0 1",
-            "gate 2 0,1,1,0,2,3,3,2,2,3,3,2,0,1,1,0 0,0,1,1,0,0,1,1,2,2,3,3,2,2,3,3 0,1,2,3,0,1,2,3,0,1,2,3,0,1,2,3 cx 1 0",
+            "gate 1 4 0,1,1,0 0,0,1,1 e4 h 0",
+            "gate 1 4 0,1,1,0 0,0,1,1 e4 s 0",
+            "gate 2 16 0,1,1,0,2,3,3,2,2,3,3,2,0,1,1,0 0,0,1,1,0,0,1,1,2,2,3,3,2,2,3,3 e4e4e4e4 cx 0 1",
+            "gate 2 16 0,1,1,0,2,3,3,2,2,3,3,2,0,1,1,0 0,0,1,1,0,0,1,1,2,2,3,3,2,2,3,3 e4e4e4e4 cx 1 0",
         ],
     );
     group(
         out,
         "6, 21 and their order; no rows, no qubits",
         &[
-            "gate 1 1 0 0 cx 0 1",
-            "gate 1 1 0 0 cx 1 0",
-            "gate 1 1 0 0 cx 1 1",
-            "gate 1 1 0 0 cx 0 0",
-            "gate 1 1 0 4 cx 0 0",
-            "gate 1 - - - h 0",
-            "gate 1 - - - h 1",
-            "gate 2 - - - cx 1 1",
-            "gate 0 - - 1 h 0",
-            "gate 65 1,1 0,1 0 cx 64 63",
-            "gate 65 0,1 8000000000000000,1 0 cx 64 63",
-            "gate 1 1 0 0 x 0",
-            "gate 1 1 0 0 cx 0",
-            "gate 1 1 0 0 h 0 0",
+            "gate 1 1 1 0 0 cx 0 1",
+            "gate 1 1 1 0 0 cx 1 0",
+            "gate 1 1 1 0 0 cx 1 1",
+            "gate 1 1 1 0 0 cx 0 0",
+            "gate 1 1 1 0 4 cx 0 0",
+            "gate 1 0 - - - h 0",
+            "gate 1 0 - - - h 1",
+            "gate 2 0 - - - cx 1 1",
+            "gate 0 1 - - 1 h 0",
+            "gate 65 1 1,1 0,1 0 cx 64 63",
+            "gate 65 1 0,1 8000000000000000,1 0 cx 64 63",
+            "gate 1 1 1 0 0 x 0",
+            "gate 1 1 1 0 0 cx 0",
+            "gate 1 1 1 0 0 h 0 0",
         ],
     );
 }

@@ -4,11 +4,11 @@
 use std::iter::repeat;
 
 use crate::limits::{
-    LINE, LINE_LIST, LINE_LOG, LINE_ROWS, LINE_TERMS, LINE_TEXT, LINE_VECTORS, LINE_WORDS, ROWS, TERMS,
+    LINE, LINE_LIST, LINE_LOG, LINE_PHASES, LINE_ROWS, LINE_TERMS, LINE_TEXT, LINE_VECTORS, LINE_WORDS, ROWS, TERMS,
 };
 use crate::line::{joined, kinds_of, Field};
 use crate::random::Random;
-use crate::rows::Set;
+use crate::rows::{phase_words, Set};
 use crate::small::Sink;
 use crate::valid::call_on;
 
@@ -16,26 +16,26 @@ use crate::valid::call_on;
 const LINES: [&str; 25] = [
     "phase1 1 0 1 1",
     "act1 1 1 1",
-    "get 1 1,0 0,1 0,3 1 0",
-    "set 1 1,0 0,1 0,3 1 0 Y",
-    "count 1 1,0 0,1 0,3 1",
-    "act 1 1,0 0,1 0,3 1 1",
-    "phase 1 1,0 0,1 0,3 0 1",
-    "phaset 1 1,0 0,1 0,3 0 1",
-    "comm 1 1,0 0,1 0,3 0 1",
-    "matrix 1 1,0 0,1 0,3 2",
-    "central 1 1,0 0,1 0,3 1",
-    "pair 1 1,0 0,1 0,3 1,1 0,1 2,1 2,2,2,2",
-    "imul 1 1,0 0,1 0,3 0 1",
-    "gate 1 1,0 0,1 0,3 h 0",
-    "gate 2 1,0 0,1 0,3 cx 0 1",
-    "write 1 1,0 0,1 0,3 1 2",
-    "read 1 1,0 0,1 0,3 1 Y0",
-    "readx 1 1,0 0,1 0,3 1 59,30",
-    "reduce 1 1,1 0,1 0,3 0,1 0 1 8",
-    "reduceall 1 1,1 0,1 0,3 8",
-    "check 1 1,1 0,1 0,3 0,1 0 1 1,0 1,0 0,1 0,1",
-    "undo 1 1,1 0,1 0,3 0 1 1,0",
+    "get 1 2 1,0 0,1 c 1 0",
+    "set 1 2 1,0 0,1 c 1 0 Y",
+    "count 1 2 1,0 0,1 c 1",
+    "act 1 2 1,0 0,1 c 1 1",
+    "phase 1 2 1,0 0,1 c 0 1",
+    "phaset 1 2 1,0 0,1 c 0 1",
+    "comm 1 2 1,0 0,1 c 0 1",
+    "matrix 1 2 1,0 0,1 c 2",
+    "central 1 2 1,0 0,1 c 1",
+    "pair 1 2 1,0 0,1 c 1,1 0,1 6 2,2,1,2",
+    "imul 1 2 1,0 0,1 c 0 1",
+    "gate 1 2 1,0 0,1 c h 0",
+    "gate 2 2 1,0 0,1 c cx 0 1",
+    "write 1 2 1,0 0,1 c 1 2",
+    "read 1 2 1,0 0,1 c 1 Y0",
+    "readx 1 2 1,0 0,1 c 1 59,30",
+    "reduce 1 2 1,1 0,1 c 0,1 0 1 8",
+    "reduceall 1 2 1,1 0,1 c 8",
+    "check 1 2 1,1 0,1 c 0,1 0 1 1,0 1,0 0,1 4",
+    "undo 1 2 1,1 0,1 c 0 1 1,0",
     "elemf 1 0,1 1,1 3ff0000000000000,4000000000000000 0,3ff0000000000000 1 1",
     "elemi 1 0,1 1,1 -3,2 5,-7 1 1",
     "elems 1 0,1 1,1 -3,2 5,-7 1,0 2,-3 4,5 1,1 -6,7 8,-9",
@@ -77,8 +77,8 @@ fn short(sink: Sink) {
 
 /// The two calls that are given a log.
 fn with_log(text: &str, sink: Sink) {
-    sink(format!("check 1 1,1 0,1 0,3 0,1 0 1 {text} 1,0 0,1 0,2"));
-    sink(format!("undo 1 1,1 0,1 0,3 0 1 {text}"));
+    sink(format!("check 1 2 1,1 0,1 c 0,1 0 1 {text} 1,0 0,1 8"));
+    sink(format!("undo 1 2 1,1 0,1 c 0 1 {text}"));
 }
 
 /// Logs as `reduce` prints them and flat, and what is neither.
@@ -102,7 +102,8 @@ pub fn longest(sink: Sink) {
     sink(terms_in(LINE));
     let mut random = Random::of(10, 0);
     let mut words = || (0..ROWS).map(|_| random.word() | 1 << 63).collect();
-    let set = Set { x: words(), z: words(), p: (0..ROWS).map(|row| row as u8 & 3).collect() };
+    let phases: Vec<u8> = (0..ROWS).map(|row| row as u8 & 3).collect();
+    let set = Set { m: ROWS, x: words(), z: words(), p: phase_words(&phases) };
     sink(call_on("reduceall", 64, &set, vec![Field::Number(LINE_LOG as u64)]).line());
 }
 
@@ -162,8 +163,7 @@ fn ends(kind: char, field: &str) -> Vec<String> {
         'n' | 'o' | 'u' | 't' | 'T' => {
             &["65535", "65536", "18446744073709551615", "18446744073709551616", "99999999999999999999"]
         }
-        'w' | 'W' | 'V' | 'K' => &["ffffffffffffffff", "10000000000000000", "A", "g", "0x1"],
-        'B' => &["3", "4", "255", "256"],
+        'w' | 'W' | 'P' | 'V' | 'K' => &["ffffffffffffffff", "10000000000000000", "A", "g", "0x1"],
         'S' | 'G' => &["65535", "65536"],
         'I' | 'k' => &["2147483647", "2147483648", "-2147483648", "-2147483649", "-4294967296", "-0", "--1"],
         'R' => &["X0 ", " X0", "\t", "X0 X0", "58,30"],
@@ -180,55 +180,55 @@ fn ends(kind: char, field: &str) -> Vec<String> {
 /// Texts as long as a list of bytes may be, and a byte longer; the rest of a line has no other end than the line's.
 fn texts(sink: Sink) {
     for bytes in [LINE_TEXT, LINE_TEXT + 1] {
-        sink(format!("read 1 1 1 0 0 {}", " ".repeat(bytes)));
-        sink(format!("readx 1 1 1 0 0 {}", joined(&vec!["58"; bytes])));
+        sink(format!("read 1 1 1 1 0 0 {}", " ".repeat(bytes)));
+        sink(format!("readx 1 1 1 1 0 0 {}", joined(&vec!["58"; bytes])));
     }
 }
 
 /// Lent lengths at what a line may ask for, and one more.
 fn lengths(sink: Sink) {
     for (most, head) in [
-        (LINE_WORDS, "matrix 1 1 1 0"),
-        (LINE_LOG, "reduceall 1 1 1 0"),
-        (LINE_LOG, "reduce 1 1 1 0 0 0 -"),
-        (LINE_TEXT, "write 1 1 1 0 0"),
+        (LINE_WORDS, "matrix 1 1 1 1 0"),
+        (LINE_LOG, "reduceall 1 1 1 1 0"),
+        (LINE_LOG, "reduce 1 1 1 1 0 0 0 -"),
+        (LINE_TEXT, "write 1 1 1 1 0 0"),
     ] {
         sink(format!("{head} {most}"));
         sink(format!("{head} {}", most + 1));
     }
-    let most = [LINE_WORDS, LINE_WORDS, LINE_ROWS, LINE_ROWS];
-    sink(format!("pair 0 - - - - - - {}", joined(&most)));
+    let most = [LINE_WORDS, LINE_WORDS, LINE_PHASES, LINE_ROWS];
+    sink(format!("pair 0 0 - - - - - - {}", joined(&most)));
     for at in 0..4 {
         let (mut alone, mut more) = ([0; 4], most);
         alone[at] = most[at];
         more[at] += 1;
-        sink(format!("pair 0 - - - - - - {}", joined(&alone)));
-        sink(format!("pair 0 - - - - - - {}", joined(&more)));
+        sink(format!("pair 0 0 - - - - - - {}", joined(&alone)));
+        sink(format!("pair 0 0 - - - - - - {}", joined(&more)));
     }
 }
 
 /// Each list by itself, as long as a line may have it and one item longer; `@` is where it stands.
 const LISTS: [(usize, &str); 34] = [
-    (LINE_WORDS, "count 1 @ - - 0"),
-    (LINE_WORDS, "count 1 - @ - 0"),
-    (LINE_ROWS, "count 0 - - @ 0"),
-    (LINE_WORDS, "act 1 0 0 0 0 @"),
-    (LINE_WORDS, "pair 1 - - - @ - - 0,0,0,0"),
-    (LINE_WORDS, "pair 1 - - - - @ - 0,0,0,0"),
-    (LINE_ROWS, "pair 0 - - - - - @ 0,0,0,0"),
-    (LINE_LIST, "reduce 1 1 1 0 @ - - 0"),
-    (LINE_LIST, "reduce 1 1 1 0 - @ - 0"),
-    (LINE_LIST, "reduce 1 1 1 0 - - @ 0"),
-    (LINE_LIST, "check 1 1 1 0 @ - - - 1 1 0"),
-    (LINE_LIST, "check 1 1 1 0 - @ - - 1 1 0"),
-    (LINE_LIST, "check 1 1 1 0 - - @ - 1 1 0"),
-    (LINE_LOG, "check 1 1 1 0 - - - @ 1 1 0"),
-    (LINE_LIST, "undo 1 1 1 0 @ - -"),
-    (LINE_LIST, "undo 1 1 1 0 - @ -"),
-    (LINE_LOG, "undo 1 1 1 0 - - @"),
-    (LINE_WORDS, "check 1 - - - - - - - @ - -"),
-    (LINE_WORDS, "check 1 - - - - - - - - @ -"),
-    (LINE_ROWS, "check 0 - - - - - - - - - @"),
+    (LINE_WORDS, "count 1 0 @ - - 0"),
+    (LINE_WORDS, "count 1 0 - @ - 0"),
+    (LINE_PHASES, "count 0 0 - - @ 0"),
+    (LINE_WORDS, "act 1 1 0 0 0 0 @"),
+    (LINE_WORDS, "pair 1 0 - - - @ - - 0,0,0,0"),
+    (LINE_WORDS, "pair 1 0 - - - - @ - 0,0,0,0"),
+    (LINE_PHASES, "pair 0 0 - - - - - @ 0,0,0,0"),
+    (LINE_LIST, "reduce 1 1 1 1 0 @ - - 0"),
+    (LINE_LIST, "reduce 1 1 1 1 0 - @ - 0"),
+    (LINE_LIST, "reduce 1 1 1 1 0 - - @ 0"),
+    (LINE_LIST, "check 1 1 1 1 0 @ - - - 1 1 0"),
+    (LINE_LIST, "check 1 1 1 1 0 - @ - - 1 1 0"),
+    (LINE_LIST, "check 1 1 1 1 0 - - @ - 1 1 0"),
+    (LINE_LOG, "check 1 1 1 1 0 - - - @ 1 1 0"),
+    (LINE_LIST, "undo 1 1 1 1 0 @ - -"),
+    (LINE_LIST, "undo 1 1 1 1 0 - @ -"),
+    (LINE_LOG, "undo 1 1 1 1 0 - - @"),
+    (LINE_WORDS, "check 1 0 - - - - - - - @ - -"),
+    (LINE_WORDS, "check 1 0 - - - - - - - - @ -"),
+    (LINE_PHASES, "check 0 0 - - - - - - - - - @"),
     (LINE_TERMS, "elemi 1 @ - - - 0 0"),
     (LINE_TERMS, "elemi 1 - @ - - 0 0"),
     (LINE_TERMS, "elemi 1 - - @ - 0 0"),

@@ -11,7 +11,10 @@ pub const VECTORS: usize = 256;
 /// Bytes of a line, its end among them.
 pub const LINE: usize = 3_500_000;
 
-/// As many phase bytes of a set as a line has, or lends.
+/// Phase words of a set that a line has, or lends: two more than the largest set has.
+pub const LINE_PHASES: usize = ROWS / 32 + 2;
+
+/// Lent numbers of a pairwise product.
 pub const LINE_ROWS: usize = ROWS + 64;
 
 /// Words of a set, a state or an output.

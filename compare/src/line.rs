@@ -1,14 +1,15 @@
 //! The lines of docs/CALLS.md, read and written by one table of calls.
 
 use crate::gates::{self, Gate};
-use crate::limits::{LINE, LINE_LIST, LINE_LOG, LINE_ROWS, LINE_TERMS, LINE_TEXT, LINE_VECTORS, LINE_WORDS};
+use crate::limits::{
+    LINE, LINE_LIST, LINE_LOG, LINE_PHASES, LINE_ROWS, LINE_TERMS, LINE_TEXT, LINE_VECTORS, LINE_WORDS,
+};
 
 #[derive(Clone, Debug, PartialEq)]
 pub enum Field {
     Number(u64),
     Word(u64),
     Words(Vec<u64>),
-    Bytes(Vec<u8>),
     Shorts(Vec<u16>),
     /// The units of a log, to be written as target:source where they are even.
     Pairs(Vec<u16>),
@@ -21,36 +22,41 @@ pub enum Field {
     TextBytes(Vec<u8>),
 }
 
-/// Each call with the kinds of its fields: n number, w word, W words of rows, B bytes, S list of u16, G log, V words of
+/// Each call with the kinds of its fields: n number, w word, W words of rows, P phase words, S list of u16, G log, V words of
 /// terms, I list of i32, K words of a state of many basis vectors, k list of i32 beside them, L letter, C a Clifford gate
 /// with its qubits, R the rest of the line, H list of bytes of a text; lent lengths: o words of a matrix, T four of a set to
 /// be written, u units of a log, t bytes of a text.
 pub const CALLS: [(&str, &str); 24] = [
     ("phase1", "wwww"),
     ("act1", "www"),
-    ("get", "nWWBnn"),
-    ("set", "nWWBnnL"),
-    ("count", "nWWBn"),
-    ("act", "nWWBnW"),
-    ("phase", "nWWBnn"),
-    ("phaset", "nWWBnn"),
-    ("comm", "nWWBnn"),
-    ("matrix", "nWWBo"),
-    ("central", "nWWBn"),
-    ("pair", "nWWBWWBT"),
-    ("imul", "nWWBnn"),
-    ("gate", "nWWBC"),
-    ("write", "nWWBnt"),
-    ("read", "nWWBnR"),
-    ("readx", "nWWBnH"),
-    ("reduce", "nWWBSSSu"),
-    ("reduceall", "nWWBu"),
-    ("check", "nWWBSSSGWWB"),
-    ("undo", "nWWBSSG"),
+    ("get", "nnWWPnn"),
+    ("set", "nnWWPnnL"),
+    ("count", "nnWWPn"),
+    ("act", "nnWWPnW"),
+    ("phase", "nnWWPnn"),
+    ("phaset", "nnWWPnn"),
+    ("comm", "nnWWPnn"),
+    ("matrix", "nnWWPo"),
+    ("central", "nnWWPn"),
+    ("pair", "nnWWPWWPT"),
+    ("imul", "nnWWPnn"),
+    ("gate", "nnWWPC"),
+    ("write", "nnWWPnt"),
+    ("read", "nnWWPnR"),
+    ("readx", "nnWWPnH"),
+    ("reduce", "nnWWPSSSu"),
+    ("reduceall", "nnWWPu"),
+    ("check", "nnWWPSSSGWWP"),
+    ("undo", "nnWWPSSG"),
     ("elemf", "nVVVVww"),
     ("elemi", "nVVIIww"),
     ("elems", "nVVIIKkkKkk"),
 ];
+
+/// Of a call over rows: behind n stands m, then X words, Z words and phase words of its first set, then what else it is given.
+pub const M: usize = 1;
+pub const SET: usize = 2;
+pub const MORE: usize = 5;
 
 #[derive(Clone, Debug, PartialEq)]
 pub struct Case {
@@ -74,13 +80,6 @@ impl Case {
     pub fn words(&self, i: usize) -> &[u64] {
         match &self.fields[i] {
             Field::Words(v) => v,
-            _ => unreachable!("field {i} of {}", self.call),
-        }
-    }
-
-    pub fn bytes(&self, i: usize) -> &[u8] {
-        match &self.fields[i] {
-            Field::Bytes(v) => v,
             _ => unreachable!("field {i} of {}", self.call),
         }
     }
@@ -164,7 +163,7 @@ fn field(kind: char, text: &str) -> Option<Field> {
         'n' => Field::Number(decimal(text, u64::MAX)?),
         'w' => Field::Word(hex(text)?),
         'W' => Field::Words(list(text, LINE_WORDS, hex)?),
-        'B' => Field::Bytes(list(text, LINE_ROWS, |s| decimal(s, 255).map(|v| v as u8))?),
+        'P' => Field::Words(list(text, LINE_PHASES, hex)?),
         'S' => Field::Shorts(list(text, LINE_LIST, short)?),
         'G' if text.contains(':') => Field::Pairs(list(text, LINE_LOG / 2, pair)?.concat()),
         'G' => Field::Shorts(list(text, LINE_LOG, short)?),
@@ -205,10 +204,10 @@ fn list<T>(text: &str, most: usize, one: impl Fn(&str) -> Option<T>) -> Option<V
     (items.len() <= most).then_some(items)
 }
 
-/// X words, Z words, phase bytes and numbers of a set to be written.
+/// X words, Z words, phase words and numbers of a set to be written.
 fn lengths(text: &str) -> Option<[u64; 4]> {
     let lengths: [u64; 4] = list(text, 4, |s| decimal(s, u64::MAX))?.try_into().ok()?;
-    let most = [LINE_WORDS, LINE_WORDS, LINE_ROWS, LINE_ROWS];
+    let most = [LINE_WORDS, LINE_WORDS, LINE_PHASES, LINE_ROWS];
     lengths.iter().zip(most).all(|(length, most)| *length <= most as u64).then_some(lengths)
 }
 
@@ -249,7 +248,6 @@ fn written(field: &Field) -> String {
         Field::Number(v) => v.to_string(),
         Field::Word(v) => format!("{v:x}"),
         Field::Words(v) => hexes(v),
-        Field::Bytes(v) => joined(v),
         Field::Pairs(v) if v.len() % 2 == 0 => {
             joined(&v.chunks(2).map(|entry| format!("{}:{}", entry[0], entry[1])).collect::<Vec<_>>())
         }

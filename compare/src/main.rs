@@ -17,6 +17,7 @@ mod limits;
 mod line;
 mod malformed;
 mod model;
+mod phases;
 mod random;
 mod reduction;
 mod rows;

@@ -3,7 +3,7 @@
 
 use crate::gates::conjugate;
 use crate::limits::{QUBITS, ROWS, TERMS, VECTORS};
-use crate::line::{hexes, joined, parsed, Case, Field};
+use crate::line::{hexes, joined, parsed, Case, Field, M, MORE, SET};
 use crate::reduction::{first_bad, is_reduced, reduce, replay, walk_back, Lists};
 use crate::rows::*;
 use crate::texts;
@@ -28,16 +28,17 @@ fn first_fitting(tests: Vec<Test>) -> Option<u8> {
     tests.iter().find(|test| (test.1)()).map(|test| test.0)
 }
 
-/// The set in the fields from i on.
+/// The set in the fields from i on. All sets of a call have the one m.
 pub fn set_at(case: &Case, i: usize) -> Set {
-    Set { x: case.words(i).to_vec(), z: case.words(i + 1).to_vec(), p: case.bytes(i + 2).to_vec() }
+    let part = |i: usize| case.words(i).to_vec();
+    Set { m: case.number(M) as usize, x: part(i), z: part(i + 1), p: part(i + 2) }
 }
 
 pub fn sets_of(case: &Case) -> Vec<Set> {
     match case.call {
-        "pair" => vec![set_at(case, 1), set_at(case, 4)],
-        "check" => vec![set_at(case, 1), set_at(case, 8)],
-        _ => vec![set_at(case, 1)],
+        "pair" => vec![set_at(case, SET), set_at(case, MORE)],
+        "check" => vec![set_at(case, SET), set_at(case, MORE + 4)],
+        _ => vec![set_at(case, SET)],
     }
 }
 
@@ -56,36 +57,32 @@ fn refusal_of_sets(case: &Case) -> Option<u8> {
     let size = n as usize;
     first_fitting(vec![
         (1, Box::new(move || n > QUBITS as u64)),
-        (2, Box::new(|| sets.iter().any(|set| set.p.len() > ROWS) || third_is_too_large(case))),
+        (2, Box::new(|| case.number(M) > ROWS as u64)),
         (3, Box::new(|| !lengths_fit(case, size, &sets))),
         (4, Box::new(|| sets.iter().any(|set| spare_bit(size, set)) || spare_bit_in_state(case))),
-        (5, Box::new(|| sets.iter().any(|set| set.p.iter().any(|p| *p > 3)))),
-        (6, Box::new(|| number_too_large(case, size, sets[0].p.len()))),
-        (21, Box::new(|| case.call == "gate" && case.gate(4).one_qubit_twice())),
+        (5, Box::new(|| sets.iter().any(|set| spare(2 * set.m, &set.p)))),
+        (6, Box::new(|| number_too_large(case, size, sets[0].m))),
+        (21, Box::new(|| case.call == "gate" && case.gate(MORE).one_qubit_twice())),
         (7, Box::new(|| repeated_in(case, places_of(case).map(|places| places.1)))),
         (15, Box::new(|| repeated_in(case, places_of(case).and_then(|places| places.0)))),
         (9, Box::new(|| log_of(case).is_some_and(|log| log.len() % 2 == 1))),
-        (13, Box::new(|| matches!(case.call, "read" | "readx") && texts::read(size, case.text(5)).is_none())),
-        (14, Box::new(|| case.call == "write" && text_of_row(case).len() as u64 > case.number(5))),
+        (13, Box::new(|| matches!(case.call, "read" | "readx") && texts::read(size, case.text(MORE + 1)).is_none())),
+        (14, Box::new(|| case.call == "write" && text_of_row(case).len() as u64 > case.number(MORE + 1))),
     ])
-}
-
-fn third_is_too_large(case: &Case) -> bool {
-    matches!(case.fields.last(), Some(Field::Lengths([_, _, p, _])) if *p > ROWS as u64)
 }
 
 fn lengths_fit(case: &Case, n: usize, sets: &[Set]) -> bool {
     let w = words_for(n);
-    let m = sets[0].p.len();
-    let fits = |set: &Set| set.p.len() == m && set.x.len() == m * w && set.z.len() == m * w;
+    let m = sets[0].m;
+    let fits = |set: &Set| set.x.len() == m * w && set.z.len() == m * w && set.p.len() == phase_words_for(m);
     sets.iter().all(fits) && output_fits(case, m, w)
 }
 
 fn output_fits(case: &Case, m: usize, w: usize) -> bool {
     match case.call {
-        "act" => case.words(5).len() == w,
-        "matrix" => case.number(4) == (m * words_for(m)) as u64,
-        "pair" => case.fields[7] == Field::Lengths([m * w, m * w, m, m].map(|v| v as u64)),
+        "act" => case.words(MORE + 1).len() == w,
+        "matrix" => case.number(MORE) == (m * words_for(m)) as u64,
+        "pair" => case.fields[MORE + 3] == Field::Lengths([m * w, m * w, phase_words_for(m), m].map(|v| v as u64)),
         _ => true,
     }
 }
@@ -96,12 +93,13 @@ fn spare_bit(n: usize, set: &Set) -> bool {
     w > 0 && set.x.chunks(w).chain(set.z.chunks(w)).any(|row| spare(n, row))
 }
 
+/// A bit set at n or above; the phases of m rows are 2m bits.
 fn spare(n: usize, row: &[u64]) -> bool {
     (n..64 * row.len()).any(|q| bit(row, q))
 }
 
 fn spare_bit_in_state(case: &Case) -> bool {
-    case.call == "act" && spare(case.number(0) as usize, case.words(5))
+    case.call == "act" && spare(case.number(0) as usize, case.words(MORE + 1))
 }
 
 fn number_too_large(case: &Case, n: usize, m: usize) -> bool {
@@ -109,12 +107,12 @@ fn number_too_large(case: &Case, n: usize, m: usize) -> bool {
     let rows = |i: usize| case.shorts(i).iter().any(|row| *row as usize >= m);
     let columns = |i: usize| case.shorts(i).iter().any(|column| *column as usize >= 2 * n);
     match case.call {
-        "get" | "set" => row(4) || case.number(5) >= n as u64,
-        "count" | "central" | "act" | "write" | "read" | "readx" => row(4),
-        "phase" | "phaset" | "comm" | "imul" => row(4) || row(5),
-        "reduce" | "check" => columns(4) || rows(5) || rows(6),
-        "undo" => rows(4) || rows(5),
-        "gate" => case.gate(4).qubits().iter().any(|q| *q >= n as u64),
+        "get" | "set" => row(MORE) || case.number(MORE + 1) >= n as u64,
+        "count" | "central" | "act" | "write" | "read" | "readx" => row(MORE),
+        "phase" | "phaset" | "comm" | "imul" => row(MORE) || row(MORE + 1),
+        "reduce" | "check" => columns(MORE) || rows(MORE + 1) || rows(MORE + 2),
+        "undo" => rows(MORE) || rows(MORE + 1),
+        "gate" => case.gate(MORE).qubits().iter().any(|q| *q >= n as u64),
         _ => false,
     }
 }
@@ -122,8 +120,8 @@ fn number_too_large(case: &Case, n: usize, m: usize) -> bool {
 /// The fields of the order, where there is one, and of the listed rows.
 fn places_of(case: &Case) -> Option<(Option<usize>, usize)> {
     match case.call {
-        "reduce" | "check" => Some((Some(4), 5)),
-        "undo" => Some((None, 4)),
+        "reduce" | "check" => Some((Some(MORE), MORE + 1)),
+        "undo" => Some((None, MORE)),
         _ => None,
     }
 }
@@ -131,8 +129,8 @@ fn places_of(case: &Case) -> Option<(Option<usize>, usize)> {
 /// The log that a call is given.
 fn log_of(case: &Case) -> Option<&[u16]> {
     match case.call {
-        "check" => Some(case.shorts(7)),
-        "undo" => Some(case.shorts(6)),
+        "check" => Some(case.shorts(MORE + 3)),
+        "undo" => Some(case.shorts(MORE + 2)),
         _ => None,
     }
 }
@@ -211,7 +209,7 @@ fn on_words(case: &Case) -> String {
 }
 
 fn text(set: &Set) -> String {
-    format!("{} {} {}", hexes(&set.x), hexes(&set.z), joined(&set.p))
+    format!("{} {} {}", hexes(&set.x), hexes(&set.z), hexes(&set.p))
 }
 
 fn rows_text(n: usize, rows: &[Row]) -> String {
@@ -220,11 +218,11 @@ fn rows_text(n: usize, rows: &[Row]) -> String {
 
 fn over_set(case: &Case) -> String {
     let n = case.number(0) as usize;
-    let mut rows = unpacked(n, &set_at(case, 1));
+    let mut rows = unpacked(n, &set_at(case, SET));
     match case.call {
-        "get" => format!("ok {:?}", rows[case.number(4) as usize].paulis[case.number(5) as usize]),
+        "get" => format!("ok {:?}", rows[case.number(MORE) as usize].paulis[case.number(MORE + 1) as usize]),
         "set" => set_qubit(case, n, rows),
-        "count" => count(&rows[case.number(4) as usize]),
+        "count" => count(&rows[case.number(MORE) as usize]),
         "act" => act(case, &rows),
         "phase" | "phaset" => {
             let (a, b) = two(case, &rows);
@@ -236,25 +234,25 @@ fn over_set(case: &Case) -> String {
         }
         "matrix" => format!("ok {}", hexes(&matrix(&rows))),
         "central" => {
-            let row = &rows[case.number(4) as usize].paulis;
+            let row = &rows[case.number(MORE) as usize].paulis;
             format!("ok {}", rows.iter().all(|other| commute(row, &other.paulis)) as u8)
         }
         "pair" => pair(case, n, &rows),
         "imul" => {
             let (a, b) = two(case, &rows);
             let number = clashes(&a.paulis, &b.paulis);
-            multiply(&mut rows, case.number(4) as usize, case.number(5) as usize);
+            multiply(&mut rows, case.number(MORE) as usize, case.number(MORE + 1) as usize);
             format!("ok {} {number}", rows_text(n, &rows))
         }
         "check" => check(case, n, rows),
         "undo" => undo(case, n, rows),
         "gate" => {
-            rows.iter_mut().for_each(|row| conjugate(row, case.gate(4)));
+            rows.iter_mut().for_each(|row| conjugate(row, case.gate(MORE)));
             format!("ok {}", rows_text(n, &rows))
         }
         "write" => written(&text_of_row(case)),
         "read" | "readx" => {
-            rows[case.number(4) as usize].paulis = texts::read(n, case.text(5)).expect("the text of a row");
+            rows[case.number(MORE) as usize].paulis = texts::read(n, case.text(MORE + 1)).expect("the text of a row");
             format!("ok {}", rows_text(n, &rows))
         }
         _ => reduction(case, n, rows),
@@ -263,8 +261,8 @@ fn over_set(case: &Case) -> String {
 
 /// The text of the row that a `write` names.
 fn text_of_row(case: &Case) -> String {
-    let rows = unpacked(case.number(0) as usize, &set_at(case, 1));
-    texts::written(&rows[case.number(4) as usize].paulis)
+    let rows = unpacked(case.number(0) as usize, &set_at(case, SET));
+    texts::written(&rows[case.number(MORE) as usize].paulis)
 }
 
 fn written(text: &str) -> String {
@@ -275,17 +273,17 @@ fn written(text: &str) -> String {
 }
 
 fn two<'a>(case: &Case, rows: &'a [Row]) -> (&'a Row, &'a Row) {
-    (&rows[case.number(4) as usize], &rows[case.number(5) as usize])
+    (&rows[case.number(MORE) as usize], &rows[case.number(MORE + 1) as usize])
 }
 
 fn set_qubit(case: &Case, n: usize, mut rows: Vec<Row>) -> String {
-    let to = match case.fields[6] {
+    let to = match case.fields[MORE + 2] {
         Field::Letter('X') => Pauli::X,
         Field::Letter('Y') => Pauli::Y,
         Field::Letter('Z') => Pauli::Z,
         _ => Pauli::I,
     };
-    rows[case.number(4) as usize].paulis[case.number(5) as usize] = to;
+    rows[case.number(MORE) as usize].paulis[case.number(MORE + 1) as usize] = to;
     format!("ok {}", rows_text(n, &rows))
 }
 
@@ -295,7 +293,7 @@ fn count(row: &Row) -> String {
 }
 
 fn act(case: &Case, rows: &[Row]) -> String {
-    let (row, state) = (&rows[case.number(4) as usize], case.words(5));
+    let (row, state) = (&rows[case.number(MORE) as usize], case.words(MORE + 1));
     let mut after = state.to_vec();
     for (q, pauli) in row.paulis.iter().enumerate() {
         after[q / 64] ^= (pauli.has_x() as u64) << (q % 64);
@@ -315,7 +313,7 @@ fn matrix(rows: &[Row]) -> Vec<u64> {
 }
 
 fn pair(case: &Case, n: usize, left: &[Row]) -> String {
-    let right = unpacked(n, &set_at(case, 4));
+    let right = unpacked(n, &set_at(case, MORE));
     let out: Vec<Row> = left.iter().zip(&right).map(|(l, r)| row_product(l, r)).collect();
     let numbers: Vec<usize> = left.iter().zip(&right).map(|(l, r)| clashes(&l.paulis, &r.paulis)).collect();
     format!("ok {} {}", rows_text(n, &out), joined(&numbers))
@@ -338,16 +336,16 @@ fn reduction(case: &Case, n: usize, mut rows: Vec<Row>) -> String {
 }
 
 fn lists_of(case: &Case) -> Lists<'_> {
-    Lists { order: case.shorts(4), listed: case.shorts(5), extra: case.shorts(6) }
+    Lists { order: case.shorts(MORE), listed: case.shorts(MORE + 1), extra: case.shorts(MORE + 2) }
 }
 
 fn check(case: &Case, n: usize, mut rows: Vec<Row>) -> String {
-    let (lists, log) = (lists_of(case), case.shorts(7));
+    let (lists, log) = (lists_of(case), case.shorts(MORE + 3));
     if let Some(k) = first_bad(rows.len(), lists, log) {
         return format!("ok bad {k} {}", rows_text(n, &rows));
     }
     replay(&mut rows, log);
-    let claimed = unpacked(n, &set_at(case, 8));
+    let claimed = unpacked(n, &set_at(case, MORE + 4));
     let verdict = match rows.iter().zip(&claimed).position(|(row, claim)| row != claim) {
         Some(r) => format!("differs {r}"),
         None if is_reduced(&rows, lists) => "yes".to_string(),
@@ -358,11 +356,11 @@ fn check(case: &Case, n: usize, mut rows: Vec<Row>) -> String {
 
 /// The entries are taken back, last to first, if all are good.
 fn undo(case: &Case, n: usize, mut rows: Vec<Row>) -> String {
-    let lists = Lists { order: &[], listed: case.shorts(4), extra: case.shorts(5) };
-    if let Some(k) = first_bad(rows.len(), lists, case.shorts(6)) {
+    let lists = Lists { order: &[], listed: case.shorts(MORE), extra: case.shorts(MORE + 1) };
+    if let Some(k) = first_bad(rows.len(), lists, case.shorts(MORE + 2)) {
         return format!("ok bad {k} {}", rows_text(n, &rows));
     }
-    walk_back(&mut rows, case.shorts(6));
+    walk_back(&mut rows, case.shorts(MORE + 2));
     format!("ok done {}", rows_text(n, &rows))
 }
 

@@ -19,16 +19,38 @@ pub struct Row {
     pub phase: u8,
 }
 
-/// A set as it lies in memory.
+/// A set as it lies in memory: m rows, their phases two bits each.
 #[derive(Clone, Debug, PartialEq)]
 pub struct Set {
+    pub m: usize,
     pub x: Vec<u64>,
     pub z: Vec<u64>,
-    pub p: Vec<u8>,
+    pub p: Vec<u64>,
 }
 
 pub fn words_for(n: usize) -> usize {
     n / 64 + (n % 64 > 0) as usize
+}
+
+/// Rows to a phase word.
+pub const PHASES: usize = 32;
+
+pub fn phase_words_for(m: usize) -> usize {
+    m / PHASES + (m % PHASES > 0) as usize
+}
+
+/// The phase of row r: the two bits from 2r on, counted over all words.
+pub fn phase_at(p: &[u64], r: usize) -> u8 {
+    bit(p, 2 * r) as u8 + 2 * bit(p, 2 * r + 1) as u8
+}
+
+/// Phases as they lie in words.
+pub fn phase_words(phases: &[u8]) -> Vec<u64> {
+    let mut out = vec![0; phase_words_for(phases.len())];
+    for (r, phase) in phases.iter().enumerate() {
+        out[r / PHASES] |= (*phase as u64) << (2 * (r % PHASES));
+    }
+    out
 }
 
 pub fn bit(words: &[u64], q: usize) -> bool {
@@ -60,20 +82,20 @@ pub fn unpacked(n: usize, set: &Set) -> Vec<Row> {
     let row = |r: usize| {
         let (x, z) = (&set.x[r * w..(r + 1) * w], &set.z[r * w..(r + 1) * w]);
         let paulis = (0..n).map(|q| pauli_of(bit(x, q), bit(z, q))).collect();
-        Row { paulis, phase: set.p[r] }
+        Row { paulis, phase: phase_at(&set.p, r) }
     };
-    (0..set.p.len()).map(row).collect()
+    (0..set.m).map(row).collect()
 }
 
 pub fn packed(n: usize, rows: &[Row]) -> Set {
     let w = words_for(n);
-    let mut set = Set { x: vec![0; rows.len() * w], z: vec![0; rows.len() * w], p: vec![] };
+    let p = phase_words(&rows.iter().map(|row| row.phase).collect::<Vec<_>>());
+    let mut set = Set { m: rows.len(), x: vec![0; rows.len() * w], z: vec![0; rows.len() * w], p };
     for (r, row) in rows.iter().enumerate() {
         for (q, pauli) in row.paulis.iter().enumerate() {
             set.x[r * w + q / 64] |= (pauli.has_x() as u64) << (q % 64);
             set.z[r * w + q / 64] |= (pauli.has_z() as u64) << (q % 64);
         }
-        set.p.push(row.phase);
     }
     set
 }

@@ -3,9 +3,9 @@
 use crate::limits::QUBITS;
 use crate::line::{Case, Field, CALLS};
 use crate::random::Random;
-use crate::rows::{unpacked, Set};
+use crate::rows::{phase_words, unpacked, Set};
 use crate::states;
-use crate::valid::{call_on, of_call, of_terms, over_rows, rows};
+use crate::valid::{call_on, further, lengths_of, of_call, of_terms, over_rows, rows};
 use crate::{faults, gates, texts};
 
 pub type Sink<'a> = &'a mut dyn FnMut(String);
@@ -37,8 +37,8 @@ fn sets(n: usize, m: usize, sink: &mut dyn FnMut(&Set)) {
     };
     for code in 0..1usize << (2 * n * m) {
         for phases in 0..1usize << (2 * m) {
-            let p = (0..m).map(|r| (phases >> (2 * r)) as u8 & 3).collect();
-            sink(&Set { x: words(code, 0), z: words(code, 1), p });
+            let p: Vec<u8> = (0..m).map(|r| (phases >> (2 * r)) as u8 & 3).collect();
+            sink(&Set { m, x: words(code, 0), z: words(code, 1), p: phase_words(&p) });
         }
     }
 }
@@ -60,7 +60,7 @@ fn one_word(sink: Sink) {
 /// Every call on one small set, with every number it may name; on the first set also with numbers one too large.
 fn over_set(n: usize, m: usize, set: &Set, sink: Sink) {
     let mut put = |call: &str, more: Vec<Field>| sink(call_on(call, n, set, more).line());
-    let past = set.x.iter().chain(&set.z).all(|word| *word == 0) && set.p.iter().all(|p| *p == 0);
+    let past = set.x.iter().chain(&set.z).chain(&set.p).all(|word| *word == 0);
     let (rows, qubits) = (m + past as usize, n + past as usize);
     put("matrix", numbers(&[m]));
     for units in [0, 2, 100] {
@@ -108,11 +108,11 @@ fn pairs(sink: Sink) {
     }
     let mut bare = vec![];
     sets(2, 2, &mut |set| {
-        if set.p == [0, 0] {
+        if set.p == [0] {
             bare.push(set.clone());
         }
     });
-    let signed = |set: &Set, code: usize| Set { p: vec![code as u8 & 3, (code >> 2) as u8 & 3], ..set.clone() };
+    let signed = |set: &Set, code: usize| Set { p: vec![code as u64 & 15], ..set.clone() };
     for (i, left) in bare.iter().enumerate() {
         for (j, right) in bare.iter().enumerate() {
             let code = 7 * i + 11 * j;
@@ -121,12 +121,8 @@ fn pairs(sink: Sink) {
     }
 }
 
-fn pair(n: usize, left: &Set, right: &Set) -> String {
-    let m = left.p.len();
-    let lengths = [left.x.len(), left.z.len(), m, m].map(|v| v as u64);
-    let words = [&right.x, &right.z].map(|words| Field::Words(words.clone()));
-    let more = [words.to_vec(), vec![Field::Bytes(right.p.clone()), Field::Lengths(lengths)]].concat();
-    call_on("pair", n, left, more).line()
+pub fn pair(n: usize, left: &Set, right: &Set) -> String {
+    call_on("pair", n, left, [further(right), vec![lengths_of(left)]].concat()).line()
 }
 
 /// Lists of the numbers below n of at most `most` items, with or without repeats.
@@ -161,7 +157,7 @@ fn reductions(sink: Sink) {
     }
     let orders: Vec<Vec<u16>> = lists(4, 4, false).into_iter().filter(|order| order.len() == 4).collect();
     sets(2, 2, &mut |set| {
-        if set.p != [0, 0] {
+        if set.p != [0] {
             return;
         }
         for order in &orders {
@@ -229,7 +225,20 @@ fn bases(call: &str, random: &mut Random) -> Vec<Case> {
         let sizes = [(1, 2, 1, 1), (3, 5, 2, 3), (63, 6, 3, 2), (64, 4, 2, 2)];
         return sizes.map(|(n, count, bras, kets)| states::of_sizes(random, n, count, bras, kets)).to_vec();
     }
-    let sizes = [(1, 1), (3, 2), (64, 2), (65, 3), (130, 2), (QUBITS - 1, 2), (5, 0), (0, 2)];
+    let sizes = [
+        (1, 1),
+        (3, 2),
+        (64, 2),
+        (65, 3),
+        (130, 2),
+        (QUBITS - 1, 2),
+        (5, 0),
+        (0, 2),
+        (2, 31),
+        (1, 32),
+        (3, 33),
+        (0, 32),
+    ];
     sizes
         .map(|(n, m)| {
             let rows = rows(random, n, m);

@@ -206,12 +206,12 @@ pub fn at_each_end(sink: Sink) {
         outputs(n, &paulis, sink);
     }
     for line in [
-        "read 0 - - 3 0",
-        "read 0 - - 3 0 ",
-        "read 2 3 1 3 0",
-        "read 2 3 1 3 0 ",
-        "read 2 3 1 3 0  ",
-        "read 0 - - 3 0 X0",
+        "read 0 1 - - 3 0",
+        "read 0 1 - - 3 0 ",
+        "read 2 1 3 1 3 0",
+        "read 2 1 3 1 3 0 ",
+        "read 2 1 3 1 3 0  ",
+        "read 0 1 - - 3 0 X0",
     ] {
         sink(line.to_string());
     }

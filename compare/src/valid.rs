@@ -11,10 +11,12 @@ use crate::{states, texts};
 /// Qubits and rows: mostly few, some at the edges of words, few at the limits.
 pub fn sizes(random: &mut Random) -> (usize, usize) {
     match random.below(1000) {
-        0..=849 => (random.within(0, 8), random.within(0, 6)),
+        0..=829 => (random.within(0, 8), random.within(0, 6)),
+        // rows around the end of a phase word
+        830..=849 => (random.within(0, 5), random.within(30, 34)),
         850..=949 => (random.pick(&[62, 63, 64, 65, 66, 127, 128, 129, 191, 192]), random.within(0, 8)),
         950..=969 => (random.within(9, 200), random.within(0, 12)),
-        970..=984 => (random.within(0, 5), random.pick(&[63, 64, 65, 127, 128, 129, 255, 256])),
+        970..=984 => (random.within(0, 5), random.pick(&[31, 32, 33, 63, 64, 65, 127, 128, 129, 255, 256])),
         985..=992 => (random.pick(&[QUBITS - 2, QUBITS - 1, QUBITS]), random.within(0, 3)),
         993..=996 => (random.within(0, 4), random.pick(&[ROWS - 1, ROWS])),
         997 => (random.pick(&[63, 64]), random.pick(&[ROWS - 1, ROWS])),
@@ -64,7 +66,17 @@ pub fn rows(random: &mut Random, n: usize, m: usize) -> Vec<Row> {
 }
 
 fn fields_of(n: usize, set: &Set) -> Vec<Field> {
-    vec![Field::Number(n as u64), Field::Words(set.x.clone()), Field::Words(set.z.clone()), Field::Bytes(set.p.clone())]
+    [vec![Field::Number(n as u64), Field::Number(set.m as u64)], further(set)].concat()
+}
+
+/// The fields of a further set: n and m stand once in a line.
+pub fn further(set: &Set) -> Vec<Field> {
+    [&set.x, &set.z, &set.p].map(|words| Field::Words(words.clone())).to_vec()
+}
+
+/// The lengths of a third set, and of its numbers.
+pub fn lengths_of(set: &Set) -> Field {
+    Field::Lengths([set.x.len(), set.z.len(), set.p.len(), set.m].map(|v| v as u64))
 }
 
 /// A call over this set with these further fields.
@@ -154,8 +166,7 @@ fn second_set(random: &mut Random, n: usize, left: &[Row]) -> Vec<Field> {
         right.iter_mut().zip(left).for_each(|(r, l)| r.phase = (4 - l.phase) % 4);
     }
     let right = packed(n, &right);
-    let lengths = [right.x.len(), right.z.len(), m, m].map(|v| v as u64);
-    vec![Field::Words(right.x), Field::Words(right.z), Field::Bytes(right.p), Field::Lengths(lengths)]
+    [further(&right), vec![lengths_of(&right)]].concat()
 }
 
 pub struct OwnLists {
@@ -223,9 +234,7 @@ fn check(random: &mut Random, n: usize, start: &[Row]) -> Vec<Field> {
     let mut claim = start.to_vec();
     let mut log = own_log(&mut claim, lists.lent());
     damage(random, n, start, &mut lists, &mut log, &mut claim);
-    let claimed = packed(n, &claim);
-    let claimed = vec![Field::Words(claimed.x), Field::Words(claimed.z), Field::Bytes(claimed.p)];
-    [lists.fields(), vec![either_form(random, log)], claimed].concat()
+    [lists.fields(), vec![either_form(random, log)], further(&packed(n, &claim))].concat()
 }
 
 /// The units of a reduction's log, as many as a line has.

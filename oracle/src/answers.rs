@@ -34,8 +34,8 @@ pub fn answer(line: &str) -> Option<String> {
         "elemi" => elemi(f),
         "elems" => elems(f),
         _ => {
-            let n = f.number()?;
-            let set = f.set(n)?;
+            let (n, m) = (f.number()?, f.number()?);
+            let set = f.set(n, m)?;
             over_set(call, n, set, f)
         }
     }
@@ -133,7 +133,7 @@ fn central(rows: &CmpntList, f: &mut Fields) -> Option<String> {
 /// phases: it takes bare words. The other phases are those of the products of the terms, which carry their phases as
 /// `ComplexSign` coefficients. Where both speak they have to agree, in every bit and every phase that cancels.
 fn pair(n: usize, left: Set, f: &mut Fields) -> Option<String> {
-    let right = f.set(n)?;
+    let right = f.set(n, left.len())?;
     let (out, bare) = left.word_iters.cmpnts_mul_pairwise(&right.word_iters).ok()?;
     let terms = products_of_terms(left.clone(), &right);
     let exponents = |phases: &ComplexSignVec| phases.copied_iter().map(exponent).collect::<Vec<_>>();
@@ -144,9 +144,9 @@ fn pair(n: usize, left: Set, f: &mut Fields) -> Option<String> {
     if rows != rows_text(&terms.word_iters) || !same {
         return Some("the Rust's two products differ".to_string());
     }
-    let phases = (0..own.len()).map(|i| if cancels(&i) { bare[i] } else { signed[i] });
+    let phases = (0..own.len()).map(|i| if cancels(&i) { bare[i] } else { signed[i] }).collect::<Vec<_>>();
     let numbers = (0..own.len()).map(|i| clashes(n, &left.word_iters, i, &right.word_iters, i));
-    Some(format!("ok {rows} {} {}", joined(phases), joined(numbers)))
+    Some(format!("ok {rows} {} {}", exponents_text(&phases), joined(numbers)))
 }
 
 fn imul(n: usize, mut set: Set, f: &mut Fields) -> Option<String> {

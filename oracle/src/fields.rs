@@ -38,14 +38,14 @@ impl<'a> Fields<'a> {
         Some(units.chunks(2).map(|pair| (pair[0], pair[1])).collect())
     }
 
-    /// The fields X Z P as rows with phases.
-    pub fn set(&mut self, n: usize) -> Option<Terms<ComplexSign>> {
+    /// The fields X Z P as m rows with phases. A phase word holds those of 32 rows.
+    pub fn set(&mut self, n: usize, m: usize) -> Option<Terms<ComplexSign>> {
         let x = self.words()?;
         let z = self.words()?;
-        let phases = self.numbers::<u8>()?;
+        let words = self.words()?;
         let mut coeffs = ComplexSignVec::default();
-        phases.iter().for_each(|p| coeffs.push(ComplexSign(*p)));
-        Some(Terms::from((rows(n, phases.len(), &x, &z), coeffs)))
+        (0..m).for_each(|r| coeffs.push(ComplexSign((words[r / 32] >> (2 * (r % 32)) & 3) as u8)));
+        Some(Terms::from((rows(n, m, &x, &z), coeffs)))
     }
 }
 
@@ -123,8 +123,14 @@ pub fn clashes(n: usize, left: &CmpntList, i: usize, right: &CmpntList, j: usize
     (0..n).filter(|q| differ(pauli(left, i, *q), pauli(right, j, *q))).count()
 }
 
+/// Exponents as phase words.
+pub fn exponents_text(exponents: &[u8]) -> String {
+    let word = |chunk: &[u8]| chunk.iter().rev().fold(0, |word, e| word << 2 | *e as u64);
+    hex(exponents.chunks(32).map(word))
+}
+
 pub fn phases_text(phases: &ComplexSignVec) -> String {
-    joined(phases.copied_iter().map(|p| p.0 & 3))
+    exponents_text(&phases.copied_iter().map(|p| p.0 & 3).collect::<Vec<_>>())
 }
 
 pub fn set_text(set: &Terms<ComplexSign>) -> String {

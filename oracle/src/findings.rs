@@ -31,10 +31,10 @@ type Finding = (&'static str, &'static str, fn() -> String);
 
 const FINDINGS: [Finding; 27] = [
     ("R1", "1,2", matrix_of_x_and_z),
-    ("R2", "error; log lost; 1,0 0,1 0,3", bad_column_after_work),
-    ("R2", "error; log lost; 1,0 0,1 0,3", bad_listed_row_after_work),
+    ("R2", "error; log lost; 1,0 0,1 c", bad_column_after_work),
+    ("R2", "error; log lost; 1,0 0,1 c", bad_listed_row_after_work),
     ("R3", "ok -; 0 1 0", bad_extra_row_never_reached),
-    ("R4", "ok 1:0,1:0; 1,1 1,0 0,0", listed_row_twice),
+    ("R4", "ok 1:0,1:0; 1,1 1,0 0", listed_row_twice),
     ("R5", "by label 0: ok -; by label 1: ok 1:0", label_for_bit),
     ("R5", "error", label_beyond_bits),
     ("R6", "rows 1,0 0,1; signs +1 +1", sign_coefficients),
@@ -51,7 +51,7 @@ const FINDINGS: [Finding; 27] = [
     ("R11", "Z words 0,1; coefficients 2 1", sorting_reorders_block),
     ("R12", "panic", row_too_large),
     ("R13", "bare: 0; terms: ok - - 1 0", bare_pairs),
-    ("R14", "ok 1:0; 1,0 0,1 0,3", column_twice),
+    ("R14", "ok 1:0; 1,0 0,1 c", column_twice),
     ("R15", "ok 3 0 0", gate_past_the_last_qubit),
     ("S1", "(+1)^1 = -1, (-1)^2 = -1; i^-1 = +i", powers),
     ("S2", "Y: true, I: false; highest bit of 2: None", redundant_and_highest),
@@ -116,7 +116,7 @@ fn listed_row_twice() -> String {
 
 /// A row of one qubit, a controlled-X onto the next.
 fn gate_past_the_last_qubit() -> String {
-    answer("gate 1 1 0 0 cx 0 1").unwrap_or_else(|| "none".to_string())
+    answer("gate 1 1 1 0 0 cx 0 1").unwrap_or_else(|| "none".to_string())
 }
 
 /// Rows X and Y, column X twice: the second mention finds no row.
@@ -220,13 +220,13 @@ fn sorting_reorders_block() -> String {
 }
 
 fn row_too_large() -> String {
-    line("imul 1 1 0 0 0 1")
+    line("imul 1 1 1 0 0 0 1")
 }
 
 /// No qubits, one row of phase i times one of phase 1: the components have no phases, the terms have.
 fn bare_pairs() -> String {
     let bare = rows(0, 1, &[], &[]).cmpnts_mul_pairwise(&rows(0, 1, &[], &[])).unwrap().1;
-    format!("bare: {}; terms: {}", phases_text(&bare), line("pair 0 - - 1 - - 0 0,0,1,1"))
+    format!("bare: {}; terms: {}", phases_text(&bare), line("pair 0 1 - - 1 - - 0 0,0,1,1"))
 }
 
 fn powers() -> String {
