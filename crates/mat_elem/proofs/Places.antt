@@ -1,13 +1,14 @@
 -- Where the block lies: in words that never fall, those below t, those that are t and those above t stand in this order, and the counts of words give
 -- the places between them. Assumes nothing.
-use mathlib.Core.Path.{_≡_, refl, sym, ap}
+use mathlib.Core.Path.{_≡_, refl, sym, ap, _∙_}
 use mathlib.Core.Bool.{Bool, true, false, cond, true≢false}
 use mathlib.Core.List.{List, [], _∷_}
 use Prim.Native.Nat.{ℕ, zero, suc, _+_, _≤_, _<_, zero-le, suc-le-suc}
-use native.Mathlib.Nat.{le-refl, le-suc, le-trans, le-of-suc-le-suc, not-suc-le-zero, zero-lt-suc, lt-of-lt-of-le}
+use native.Mathlib.Decide.{decLe}
+use native.Mathlib.Nat.{le-refl, le-suc, le-trans, le-of-suc-le-suc, not-suc-le-zero, zero-lt-suc, lt-of-lt-of-le, lt-of-not-le}
 use native.Mathlib.Omega.{arith}
 use borrow.Author.Count.{below-more}
-use borrow.Author.Tests.{ltb-true, ltb-false, leb-true, leb-false, le-ltb, le-leb, lt-leb}
+use borrow.Author.Tests.{ltb-true, ltb-false, leb-true, leb-false, lt-ltb, le-ltb, le-leb, lt-leb}
 use lib.Arith.{le-zero, lt-of-le-ne}
 use lib.Dec.{ltb, leb}
 use lib.ListN.{length, getD}
@@ -71,6 +72,14 @@ module _ (xs : List ℕ) (t : ℕ) (e : falls xs ≡ false) where
 
   pub to-split : Split (λ w. leb w t) xs (blockTo xs t)
   to-split = split (λ w. leb w t) xs (λ i j l h n. lt-leb (getD xs j 0) t (le-trans (leb-false (getD xs i 0) t n) (rising 0 xs e i j l h)))
+
+  -- a word below t stands before the block's start, and only such a word does
+  pub below-start : (k : ℕ) → k < length xs → ltb (getD xs k 0) t ≡ ltb k (blockFrom xs t)
+  below-start k h = go (decLe (blockFrom xs t) k)
+    where
+      go : Dec (blockFrom xs t ≤ k) → ltb (getD xs k 0) t ≡ ltb k (blockFrom xs t)
+      go (yes p) = from-split .after k p h ∙ sym (le-ltb k (blockFrom xs t) p)
+      go (no p) = from-split .before k (lt-of-not-le p) ∙ sym (lt-ltb k (blockFrom xs t) (lt-of-not-le p))
 
   -- the block is exactly the terms with X = t
   pub block-of : BlockOf xs t (blockFrom xs t) (blockTo xs t)

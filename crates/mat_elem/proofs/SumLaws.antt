@@ -1,10 +1,10 @@
 -- The sum over a block is the sum from the block's first place up to, not including, its last, whatever is added; so are its partial sums; whether there is
--- a block; and the turn by 3. Assumes nothing.
+-- a block; and the turned parts by look-up. Assumes nothing.
 use mathlib.Core.Path.{_≡_, refl, sym, ap, ap₂, _∙_}
 use mathlib.Core.Logic.{_↔_}
 use mathlib.Core.Bool.{Bool, true, false}
-use mathlib.Core.List.{List}
-use Prim.Native.Nat.{ℕ, zero, suc, _+_, _-_, _≤_, _<_}
+use mathlib.Core.List.{List, [], _∷_}
+use Prim.Native.Nat.{ℕ, zero, suc, _+_, _-_, _%_, _≤_, _<_}
 use native.Mathlib.Decide.{decLe}
 use native.Mathlib.Nat.{le-refl, lt-of-lt-of-le, le-of-suc-le-suc, zero-add, suc-add, le-trans, lt-of-not-le}
 use native.Mathlib.Numerals.{add-one}
@@ -97,9 +97,13 @@ module _ (xs : List ℕ) (t first last : ℕ) (b : BlockOf xs t first last) wher
       go k l e (yes p) = let u : t < getD xs k 0 = b .after k (le-trans h p) l in omega arith
       go k l e (no p) = let u : getD xs k 0 < t = b .before k (lt-of-not-le p) in omega arith
 
--- ---- past 2 the last of the four turns holds
-pub turned-rest : {A : Type 0} (minus : A → A) (a b : A) (k : ℕ) → (k ≡ 0 → ⊥) → (k ≡ 1 → ⊥) → (k ≡ 2 → ⊥) → turned minus k a b ≡ (b, minus a)
-turned-rest minus a b zero h i j = absurd (h refl)
-turned-rest minus a b (suc zero) h i j = absurd (i refl)
-turned-rest minus a b (suc (suc zero)) h i j = absurd (j refl)
-turned-rest minus a b (suc (suc (suc k))) h i j = refl
+-- ---- the turned parts, looked up: the second stands one place before the first, in a ring
+abbrev pub ring : {A : Type 0} → (A → A) → A → A → List A
+ring minus a b = a ∷ minus b ∷ minus a ∷ b ∷ []
+
+pub looked-up : {A : Type 0} (minus : A → A) (a b none : A) (k : ℕ) → k < 4 → (getD (ring minus a b) k none, getD (ring minus a b) ((k + 3) % 4) none) ≡ turned minus k a b
+looked-up minus a b none zero h = refl
+looked-up minus a b none (suc zero) h = refl
+looked-up minus a b none (suc (suc zero)) h = refl
+looked-up minus a b none (suc (suc (suc zero))) h = refl
+looked-up minus a b none (suc (suc (suc (suc k)))) h = absurd (omega arith)

@@ -1,7 +1,8 @@
 // What the two editions of matrix elements share: the tests of the terms, the block's place among them, and the exponent of a term's action on the ket.
 ghost use mathlib.Core.Path.{_≡_};
 ghost use mathlib.Core.Bool.{false};
-ghost use Prim.Native.Nat.{suc, _^_, _<_};
+ghost use Prim.Native.Nat.{suc, _^_, _≤_, _<_};
+ghost use lib.Dec.{ltb};
 ghost use lib.ListN.{length};
 ghost use Rattle.encoding.specs.Refusals.{fault, faultFrom};
 ghost use Rattle.mat_elem.specs.Terms.{maxQubits, setFrom, falls, linesTo10};
@@ -9,8 +10,10 @@ ghost use Rattle.mat_elem.specs.Lent.{lent};
 ghost use Rattle.mat_elem.specs.Workers.{shapeTests, wordTests, Looked, blockFrom, placeOf, foundOf};
 ghost use Rattle.mat_elem.specs.Sums.{exponentOf};
 use pauli::ComplexSign;
+use std::num::wrapping_sub_u64;
 
 pub mod float;
+mod guide;
 pub mod states;
 pub mod whole;
 
@@ -81,23 +84,35 @@ struct Seen {
     falls: bool,
 }
 
+// A word whose highest bit is set exactly when a is below b: the difference of their halves, less one where b alone has the lowest bit. A comparison of
+// words is dearer where several are made at once.
+fn borrow(a: u64, b: u64) -> u64
+    ensures { λ r. ⌜ setFrom 63 r ≡ ltb a b ⌝ }
+{
+    let d = wrapping_sub_u64(a >> 1, b >> 1);
+    wrapping_sub_u64(d, (b & !a) & 1)
+}
+
 fn look(x: &[u64], z: &[u64]) -> Seen
     requires { ⌜ length (now z) ≡ length (now x) ⌝ }
     ensures { λ r. ⌜ Looked (lent x) (lent z) (r .all) (r .falls) ⌝ }
 {
     let mut all: u64 = 0;
-    let mut falls = false;
+    let mut fall: u64 = 0;
     let mut prev: u64 = 0;
     let mut i = 0;
     while i < x.len() {
         let w = x[i];
         let v = z[i];
         all = all | w | v;
-        falls = falls | (w < prev);
+        fall = fall | borrow(w, prev);
         prev = w;
         i += 1;
     }
-    Seen { all, falls }
+    Seen {
+        all,
+        falls: above(63, fall),
+    }
 }
 
 // The lines 4 to 10.
@@ -135,16 +150,54 @@ pub(crate) fn term_fault(
     word_fault(n, x, z, beside)
 }
 
-// The first place whose word is t or more.
-fn lower(x: &[u64], t: u64) -> usize
+// Whether the word at place k is below t: then the block of t starts after it.
+fn is_below(x: &[u64], k: usize, t: u64) -> bool
+    requires { ⌜ (falls (now x) ≡ false) × (k < length (now x)) ⌝ }
+    ensures { λ r. ⌜ r ≡ ltb k (blockFrom (lent x) t) ⌝ }
+{
+    x[k] < t
+}
+
+// The guess, where the block of t starts at it or after it, and else 0.
+fn low_end(x: &[u64], t: u64, guess: usize) -> usize
     requires { ⌜ falls (now x) ≡ false ⌝ }
+    ensures { λ r. ⌜ r ≤ blockFrom (lent x) t ⌝ }
+{
+    if guess == 0 {
+        return 0;
+    }
+    if x.len() < guess {
+        return 0;
+    }
+    if is_below(x, guess - 1, t) { guess } else { 0 }
+}
+
+// The guess, where the block of t starts at it or before it, and else the end.
+fn high_end(x: &[u64], t: u64, guess: usize) -> usize
+    requires { ⌜ falls (now x) ≡ false ⌝ }
+    ensures { λ r. ⌜ (blockFrom (lent x) t ≤ r) × (r ≤ length (lent x)) ⌝ }
+{
+    if x.len() <= guess {
+        return x.len();
+    }
+    if is_below(x, guess, t) {
+        x.len()
+    } else {
+        guess
+    }
+}
+
+// The first place whose word is t or more, which is not before `low` and not after `high`.
+fn lower(x: &[u64], t: u64, low: usize, high: usize) -> usize
+    requires { ⌜ falls (now x) ≡ false ⌝ }
+    requires { ⌜ (low ≤ blockFrom (now x) t) × (blockFrom (now x) t ≤ high) × (high ≤ length (now x)) ⌝ }
     ensures { λ r. ⌜ r ≡ blockFrom (lent x) t ⌝ }
 {
-    let mut lo = 0;
-    let mut hi = x.len();
+    let mut lo = low;
+    let mut hi = high;
     while lo < hi {
         let mid = lo + ((hi - lo) >> 1);
-        if x[mid] < t {
+        if is_below(x, mid, t) {
             lo = mid + 1;
         } else {
             hi = mid;
@@ -153,12 +206,22 @@ fn lower(x: &[u64], t: u64) -> usize
     lo
 }
 
+// The same, looked for between the guessed places first.
+fn start(x: &[u64], t: u64, guess: Place) -> usize
+    requires { ⌜ falls (now x) ≡ false ⌝ }
+    ensures { λ r. ⌜ r ≡ blockFrom (lent x) t ⌝ }
+{
+    let low = low_end(x, t, guess.first);
+    let high = high_end(x, t, guess.last);
+    lower(x, t, low, high)
+}
+
 // The run of words that are t.
-pub(crate) fn block(x: &[u64], t: u64) -> Place
+pub(crate) fn block(x: &[u64], t: u64, guess: Place) -> Place
     requires { ⌜ falls (now x) ≡ false ⌝ }
     ensures { λ r. ⌜ r ≡ placeOf (lent x) t ⌝ }
 {
-    let first = lower(x, t);
+    let first = start(x, t, guess);
     let mut last = first;
     while last < x.len() {
         if x[last] != t {
@@ -186,7 +249,11 @@ pub(crate) fn find_block(
     if number != 0 {
         return Found::Refused(number);
     }
-    let p = block(x, bra ^ ket);
+    let all = Place {
+        first: 0,
+        last: x.len(),
+    };
+    let p = block(x, bra ^ ket, all);
     Found::Block(p.first, p.last)
 }
 

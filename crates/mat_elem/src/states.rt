@@ -9,6 +9,8 @@ ghost use Rattle.mat_elem.specs.Lent.{lent, termsLent, stateLent};
 ghost use Rattle.mat_elem.specs.Workers.{Ready, Parted, overKets, overBras, totalOr};
 ghost use Rattle.mat_elem.specs.states.Sums.{listTests};
 ghost use Rattle.mat_elem.specs.states.Vectors.{MatElem};
+use crate::guide;
+use crate::guide::STARTS;
 use checked::CheckedComplex;
 
 // A list has at most 256 words.
@@ -77,6 +79,8 @@ fn over_kets(
     kets: &[u64],
     kre: &[i32],
     kim: &[i32],
+    starts: &[usize; STARTS],
+    shift: usize,
 ) -> CheckedComplex
     requires { ⌜ Ready (now x) (length (now z)) (length (now re)) (length (now im)) ⌝ }
     requires { ⌜ Parted (length (now kets)) (length (now kre)) (length (now kim)) ⌝ }
@@ -85,7 +89,9 @@ fn over_kets(
     let mut j = 0;
     let mut s = start;
     while j < kets.len() {
-        let e = crate::whole::pair_element(x, z, re, im, bra, kets[j]);
+        let ket = kets[j];
+        let guess = guide::guess(starts, shift, bra ^ ket);
+        let e = crate::whole::pair_element(x, z, re, im, bra, ket, guess);
         s = checked::add_pair(s, br, bi, kre[j], kim[j], e.re, e.im);
         j += 1;
     }
@@ -104,6 +110,8 @@ fn over_bras(
     kets: &[u64],
     kre: &[i32],
     kim: &[i32],
+    starts: &[usize; STARTS],
+    shift: usize,
 ) -> CheckedComplex
     requires { ⌜ Ready (now x) (length (now z)) (length (now re)) (length (now im)) ⌝ }
     requires { ⌜ Parted (length (now bras)) (length (now bre)) (length (now bim)) ⌝ }
@@ -117,10 +125,47 @@ fn over_bras(
         im: 0,
     };
     while i < bras.len() {
-        s = over_kets(s, x, z, re, im, bras[i], bre[i], bim[i], kets, kre, kim);
+        s = over_kets(
+            s,
+            x,
+            z,
+            re,
+            im,
+            bras[i],
+            bre[i],
+            bim[i],
+            kets,
+            kre,
+            kim,
+            starts,
+            shift,
+        );
         i += 1;
     }
     s
+}
+
+// The same, with a guide to the blocks.
+fn all_pairs(
+    x: &[u64],
+    z: &[u64],
+    re: &[i32],
+    im: &[i32],
+    bras: &[u64],
+    bre: &[i32],
+    bim: &[i32],
+    kets: &[u64],
+    kre: &[i32],
+    kim: &[i32],
+) -> CheckedComplex
+    requires { ⌜ Ready (now x) (length (now z)) (length (now re)) (length (now im)) ⌝ }
+    requires { ⌜ Parted (length (now bras)) (length (now bre)) (length (now bim)) ⌝ }
+    requires { ⌜ Parted (length (now kets)) (length (now kre)) (length (now kim)) ⌝ }
+    ensures { λ r. ⌜ r ≡ overBras (termsLent x z re im) (stateLent bras bre bim) (stateLent kets kre kim) ⌝ }
+{
+    let mut starts = [0usize; STARTS];
+    let shift = guide::fill(x, bras.len() * kets.len(), &mut starts);
+    over_bras(x, z, re, im, bras, bre, bim, kets, kre, kim, &starts, shift)
 }
 
 // The sum, or 16.
@@ -166,5 +211,5 @@ pub fn mat_elem_from_presorted(
     if number != 0 {
         return Total::Refused(number);
     }
-    told(over_bras(x, z, re, im, bras, bre, bim, kets, kre, kim))
+    told(all_pairs(x, z, re, im, bras, bre, bim, kets, kre, kim))
 }

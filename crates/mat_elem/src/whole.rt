@@ -1,5 +1,6 @@
 // Matrix elements with coefficients of two whole numbers.
 ghost use mathlib.Core.Path.{_≡_};
+ghost use Prim.Native.Nat.{_<_};
 ghost use lib.Bits.{bitXor};
 ghost use lib.IntN.{negℤ, _+ℤ_};
 ghost use lib.ListN.{length};
@@ -9,6 +10,7 @@ ghost use Rattle.mat_elem.specs.Lent.{lent};
 ghost use Rattle.mat_elem.specs.Workers.{PartOf, partMax, sumMax, Within, partSum, Ready};
 ghost use Rattle.mat_elem.specs.whole.Sums.{complex, turnedBy, plus, blockSum, MatElem};
 use crate::Found;
+use crate::Place;
 use pauli::ComplexSign;
 
 // A complex whole number.
@@ -48,26 +50,17 @@ fn minus(a: i64) -> i64
     -a
 }
 
-// c times i to the k.
+// c times i to the k. The turned parts are looked up: a jump on k, which is any of four, is not foreseen.
 fn turn(c: Complex, k: ComplexSign) -> Complex
     requires { ⌜ Within partMax c ⌝ }
+    requires { ⌜ k .0 < 4 ⌝ }
     ensures { λ r. ⌜ r ≡ turnedBy (k .0) c ⌝ }
 {
-    let e = k.0;
-    match e {
-        0 => c,
-        1 => Complex {
-            re: minus(c.im),
-            im: c.re,
-        },
-        2 => Complex {
-            re: minus(c.re),
-            im: minus(c.im),
-        },
-        _ => Complex {
-            re: c.im,
-            im: minus(c.re),
-        },
+    let parts = [c.re, minus(c.im), minus(c.re), c.im];
+    let e = k.0 as usize;
+    Complex {
+        re: parts[e],
+        im: parts[(e + 3) % 4],
     }
 }
 
@@ -85,6 +78,7 @@ fn add(a: Complex, b: Complex) -> Complex
 // The sum with one coefficient more, turned by k.
 fn step(s: Complex, re: i32, im: i32, k: ComplexSign) -> Complex
     requires { ⌜ Within sumMax s ⌝ }
+    requires { ⌜ k .0 < 4 ⌝ }
     ensures { λ r. ⌜ r ≡ plus s (turnedBy (k .0) (complex re im)) ⌝ }
 {
     add(s, turn(coefficient(re, im), k))
@@ -114,7 +108,7 @@ fn block_sum(
     s
 }
 
-// The element between bra and ket, of terms that were tested: 0 where there is no block.
+// The element between bra and ket, of terms that were tested: 0 where there is no block. The block is looked for at the guess first.
 pub(crate) fn pair_element(
     x: &[u64],
     z: &[u64],
@@ -122,11 +116,12 @@ pub(crate) fn pair_element(
     im: &[i32],
     bra: u64,
     ket: u64,
+    guess: Place,
 ) -> Complex
     requires { ⌜ Ready (now x) (length (now z)) (length (now re)) (length (now im)) ⌝ }
     ensures { λ r. ⌜ r ≡ blockSum (lent x) (lent z) (lent re) (lent im) (bitXor bra ket) ket ⌝ }
 {
-    let p = crate::block(x, bra ^ ket);
+    let p = crate::block(x, bra ^ ket, guess);
     block_sum(x, z, re, im, ket, p.first, p.last)
 }
 

@@ -19,19 +19,19 @@ Inv-loop x t first last₀ last = Run x t last
 abbrev μ-loop : tie.MeasureT-loop
 μ-loop x t first last₀ last = length x - last
 
-lower-requires : tie.Need-lower-requires Inv-loop μ-loop
-lower-requires c κs = c .before .pre
+start-requires : tie.Need-start-requires Inv-loop μ-loop
+start-requires c κs = c .before .pre
 
 loop-holds : tie.Need-loop-holds Inv-loop μ-loop
 loop-holds c =
     let s = c .before .before in
-    rw (c .lower .ensures) (run-none (s .args .x .now) (s .args .t) (s .pre))
+    rw (c .start .ensures) (run-none (s .args .x .now) (s .args .t) (s .pre))
 
 returns : tie.Need-returns Inv-loop μ-loop
 returns c =
     let w = c .before .before .before in
     let s = w .before .before .before in
-    ap₂ place (w .before .lower .ensures) (run-stop (s .args .x .now) (s .args .t) (s .pre) (w .loop .inv) (c .before .before .loop-test .taken) (c .if1 .taken))
+    ap₂ place (w .before .start .ensures) (run-stop (s .args .x .now) (s .args .t) (s .pre) (w .loop .inv) (c .before .before .loop-test .taken) (c .if1 .taken))
 
 loop-again : tie.Need-loop-again Inv-loop μ-loop
 loop-again c =
@@ -43,7 +43,7 @@ returns-2 : tie.Need-returns-2 Inv-loop μ-loop
 returns-2 c =
     let w = c .before in
     let s = w .before .before .before in
-    ap₂ place (w .before .lower .ensures) (run-end (s .args .x .now) (s .args .t) (s .pre) (w .loop .inv) (omega arith))
+    ap₂ place (w .before .start .ensures) (run-end (s .args .x .now) (s .args .t) (s .pre) (w .loop .inv) (omega arith))
 
 pub block-spec : {M : Type 1} → statement M
 block-spec =
@@ -51,7 +51,7 @@ block-spec =
     (tie.spec
     Inv-loop
     μ-loop
-    lower-requires
+    start-requires
     loop-holds
     (λ c. search needs)
     (λ c. search needs)

@@ -1,72 +1,47 @@
--- Invariant: words before lo are below t, words from hi on are not. X never falls, so the word in the middle settles one half.
--- Where lo meets hi it is the number of words below t, which is where the block starts.
-use mathlib.Core.Path.{sym}
-use borrow.Author.Tests.{lt-ltb, le-ltb}
-use lib.Dec.{ltb}
-use Rattle.mat_elem.proofs.Order.{rising}
-use Rattle.mat_elem.proofs.Places.{many-split}
-use Prim.Native.Nat.{ℕ, _+_, _-_, _/_, _≤_, _<_}
+-- Invariant: the block's start is not before lo and not after hi. Whether the word in the middle is below t tells on which side of it the start lies.
+-- Where lo meets hi it is the start.
 use native.Mathlib.Omega.{arith}
+use mathlib.Core.Path.{_≡_, sym, _∙_}
+use Prim.Native.Nat.{_+_, _-_, _/_, _≤_}
 use borrow.Author.Needs.{needs}
-use lib.ListN.{length, getD}
+use borrow.Author.Tests.{ltb-true, ltb-false}
+use lib.ListN.{length}
+use Rattle.mat_elem.specs.Workers.{blockFrom}
 use Rattle.mat_elem.proofs.lower.Statement.{statement}
 use Rattle.mat_elem.proofs.lower.Tie as tie
 
 abbrev Inv-loop : tie.InvT-loop
-Inv-loop x t lo₀ hi₀ lo hi = (lo ≤ hi) × ((hi ≤ length x) × (((k : ℕ) → k < lo → getD x k 0 < t) × ((k : ℕ) → hi ≤ k → k < length x → t ≤ getD x k 0)))
+Inv-loop x t low high lo₀ hi₀ lo hi = (lo ≤ blockFrom x t) × (blockFrom x t ≤ hi) × (hi ≤ length x)
 
 abbrev μ-loop : tie.MeasureT-loop
-μ-loop x t lo₀ hi₀ lo hi = hi - lo
+μ-loop x t low high lo₀ hi₀ lo hi = hi - lo
 
 loop-holds : tie.Need-loop-holds Inv-loop μ-loop
-loop-holds c = (search needs, (search needs, ((λ k h. omega arith), (λ k h l. omega arith))))
+loop-holds c = c .before .pre .1
 
-sub-mid : tie.Need-sub-mid Inv-loop μ-loop
-sub-mid c = omega arith
-
-add-mid : tie.Need-add-mid Inv-loop μ-loop
-add-mid c = omega arith
-
-mul-if1 : tie.Need-mul-if1 Inv-loop μ-loop
-mul-if1 c = omega arith
-
-shared-slice-read-if1 : tie.Need-shared-slice-read-if1 Inv-loop μ-loop
-shared-slice-read-if1 c = omega arith
-
-add-lo : tie.Need-add-lo Inv-loop μ-loop
-add-lo c = omega arith
-
-loop-less : tie.Need-loop-less Inv-loop μ-loop
-loop-less c = omega arith
+is-below-requires : tie.Need-is-below-requires Inv-loop μ-loop
+is-below-requires c κs = (c .before .before .before .pre .0, omega arith)
 
 loop-again : tie.Need-loop-again Inv-loop μ-loop
 loop-again c =
-    let w = c .before .before .before in
-    let a = w .before .args in
-    let lo = w .loop .lo in
-    let hi = w .loop .hi in
-    let mid = lo + (hi - lo) / 2 in
-    let up = rising 0 (a .x .now) (w .before .pre) in
-    (omega arith, (omega arith, ((λ k h. omega (arith, up k mid (omega arith) (omega arith))), w .loop .inv .1 .1 .1)))
-
-loop-less-2 : tie.Need-loop-less-2 Inv-loop μ-loop
-loop-less-2 c = omega arith
+    let k = c .before in
+    let l = k .before .before in
+    let a = l .before .before .args in
+    let mid = l .loop .lo + (l .loop .hi - l .loop .lo) / 2 in
+    let h = ltb-true mid (blockFrom (a .x .now) (a .t)) (sym (k .is-below .ensures) ∙ c .if1 .taken) in
+    (omega (arith, h), omega arith, omega arith)
 
 loop-again-2 : tie.Need-loop-again-2 Inv-loop μ-loop
 loop-again-2 c =
-    let w = c .before .before .before in
-    let a = w .before .args in
-    let lo = w .loop .lo in
-    let hi = w .loop .hi in
-    let mid = lo + (hi - lo) / 2 in
-    let up = rising 0 (a .x .now) (w .before .pre) in
-    (omega arith, (omega arith, (w .loop .inv .1 .1 .0, (λ k h l. omega (arith, up mid k h l)))))
+    let k = c .before in
+    let l = k .before .before in
+    let a = l .before .before .args in
+    let mid = l .loop .lo + (l .loop .hi - l .loop .lo) / 2 in
+    let h = ltb-false mid (blockFrom (a .x .now) (a .t)) (sym (k .is-below .ensures) ∙ c .if1 .left) in
+    (omega arith, omega (arith, h), omega arith)
 
 returns : tie.Need-returns Inv-loop μ-loop
-returns c =
-    let l = c .before .loop in
-    let a = c .before .before .args in
-    sym (many-split (λ w. ltb w (a .t)) (a .x .now) (l .lo) (omega arith) (λ k h. lt-ltb _ _ (l .inv .1 .1 .0 k h)) (λ k h u. le-ltb _ _ (l .inv .1 .1 .1 k (omega arith) u)))
+returns c = omega arith
 
 pub lower-spec : {M : Type 1} → statement M
 lower-spec =
@@ -75,13 +50,12 @@ lower-spec =
     Inv-loop
     μ-loop
     loop-holds
-    sub-mid
-    add-mid
-    mul-if1
-    shared-slice-read-if1
-    add-lo
-    loop-less
+    (λ c. omega arith)
+    (λ c. omega arith)
+    is-below-requires
+    (λ c. omega arith)
+    (λ c. omega arith)
     loop-again
-    loop-less-2
+    (λ c. omega arith)
     loop-again-2
     returns)

@@ -20,8 +20,8 @@ returns c =
     mat-elem (a .n) A b k (answer-refused (a .n) A b k (f .states-fault .ensures) (c .if1 .taken))
     (f .before .before .before .before .shared-slice-known .given) (f .before .before .before .shared-slice-known2 .given) (f .before .before .shared-slice-known3 .given) (f .before .shared-slice-known4 .given)
 
-over-bras-requires : tie.Need-over-bras-requires
-over-bras-requires c κs =
+all-pairs-requires : tie.Need-all-pairs-requires
+all-pairs-requires c κs =
     let f = c .before in
     let a = f .before .before .before .before .before .args in
     let A = (terms (a .x .now) (a .z .now) (a .re .now) (a .im .now)) in
@@ -40,9 +40,9 @@ returns-2 c =
     let A = (terms (a .x .now) (a .z .now) (a .re .now) (a .im .now)) in
     let b = (state (a .bras .now) (a .bre .now) (a .bim .now)) in
     let k = (state (a .kets .now) (a .kre .now) (a .kim .now)) in
-    mat-elem (a .n) A b k (answer-run (a .n) A b k (sym (f .states-fault .ensures) ∙ i .if1 .left) (o .over-bras .ensures) (c .told .ensures))
+    mat-elem (a .n) A b k (answer-run (a .n) A b k (sym (f .states-fault .ensures) ∙ i .if1 .left) (o .all-pairs .ensures) (c .told .ensures))
     (f .before .before .before .before .shared-slice-known .given) (f .before .before .before .shared-slice-known2 .given) (f .before .before .shared-slice-known3 .given) (f .before .shared-slice-known4 .given)
 
 pub mat-elem-from-presorted-spec : {M : Type 1} → statement M
 mat-elem-from-presorted-spec =
-    tie.close (tie.spec (λ c κs. search needs) returns over-bras-requires (λ c κs. search needs) returns-2)
+    tie.close (tie.spec (λ c κs. search needs) returns all-pairs-requires (λ c κs. search needs) returns-2)

@@ -15,11 +15,11 @@ use Rattle.mat_elem.proofs.states.over_bras.Statement.{statement}
 use Rattle.mat_elem.proofs.states.over_bras.Tie as tie
 
 abbrev Inv-loop : tie.InvT-loop
-Inv-loop x z re im bras bre bim kets kre kim i₀ s₀ i s =
+Inv-loop x z re im bras bre bim kets kre kim starts shift i₀ s₀ i s =
     (i ≤ length bras) × (s ≡ through (braStep (terms x z re im) (state bras bre bim) (state kets kre kim)) s₀ i)
 
 abbrev μ-loop : tie.MeasureT-loop
-μ-loop x z re im bras bre bim kets kre kim i₀ s₀ i s = length bras - i
+μ-loop x z re im bras bre bim kets kre kim starts shift i₀ s₀ i s = length bras - i
 
 loop-holds : tie.Need-loop-holds Inv-loop μ-loop
 loop-holds c = (omega arith, none-yet _ _)

@@ -19,25 +19,25 @@ use Rattle.mat_elem.proofs.states.over_kets.Statement.{statement}
 use Rattle.mat_elem.proofs.states.over_kets.Tie as tie
 
 abbrev Inv-loop : tie.InvT-loop
-Inv-loop x z re im bra br bi kets kre kim j₀ s₀ j s =
+Inv-loop x z re im bra br bi kets kre kim starts shift j₀ s₀ j s =
     (j ≤ length kets) × (s ≡ through (ketStep (terms x z re im) (state kets kre kim) bra (gauss (toZ w32 br) (toZ w32 bi))) s₀ j)
 
 abbrev μ-loop : tie.MeasureT-loop
-μ-loop x z re im bra br bi kets kre kim j₀ s₀ j s = length kets - j
+μ-loop x z re im bra br bi kets kre kim starts shift j₀ s₀ j s = length kets - j
 
 loop-holds : tie.Need-loop-holds Inv-loop μ-loop
 loop-holds c = (omega arith, none-yet _ _)
 
 pair-element-requires : tie.Need-pair-element-requires Inv-loop μ-loop
-pair-element-requires c κs = c .before .before .before .before .before .before .pre .0
+pair-element-requires c κs = c .before .before .before .before .before .before .before .pre .0
 
 add-j : tie.Need-add-j Inv-loop μ-loop
-add-j c = record { fits = omega (arith, c .before .before .before .before .before .before .before .loop-test .taken, c .before .before .before .before .before .before .before .before .before .before .before .before .pre .1 .few) }
+add-j c = record { fits = omega (arith, c .before .before .before .before .before .before .before .before .loop-test .taken, c .before .before .before .before .before .before .before .before .before .before .before .before .before .pre .1 .few) }
 
 loop-again : tie.Need-loop-again Inv-loop μ-loop
 loop-again c =
     let p = c .before .before .before .before .before in
-    let t = p .before .before in
+    let t = p .before .before .before in
     let l = t .before in
     let a = l .before .before .before .before .args in
     let j = l .loop .j in
@@ -67,6 +67,7 @@ over-kets-spec =
     loop-holds
     (λ c. search needs)
     (λ c. search needs)
+    (λ c κs. search needs)
     pair-element-requires
     (λ c. search needs)
     (λ c. search needs)

@@ -31,7 +31,8 @@ step-requires c κs =
     let w = c .before .before .before .before .before .before in
     let s = w .before .before .before in
     let a = s .args in
-    sum-within (a .x .now) (a .z .now) (a .re .now) (a .im .now) (a .ket) (a .first) (a .last) (w .loop .inv) (s .pre .few)
+    let k = c .before .before .exponent in
+    (sum-within (a .x .now) (a .z .now) (a .re .now) (a .im .now) (a .ket) (a .first) (a .last) (w .loop .inv) (s .pre .few), omega (arith, k .ensures))
 
 loop-again : tie.Need-loop-again Inv-loop μ-loop
 loop-again c =

@@ -8,12 +8,12 @@ use Rattle.mat_elem.proofs.whole.step.Statement.{statement}
 use Rattle.mat_elem.proofs.whole.step.Tie as tie
 
 turn-requires : tie.Need-turn-requires
-turn-requires c κs = subst (Within partMax) (sym (c .coefficient .ensures .0)) (c .coefficient .ensures .1)
+turn-requires c κs = (subst (Within partMax) (sym (c .coefficient .ensures .0)) (c .coefficient .ensures .1), c .before .pre .1)
 
 add-requires : tie.Need-add-requires
 add-requires c κs =
     let k = c .before in
-    (k .before .pre, subst (Within partMax) (sym (c .turn .ensures)) (within-turned partMax (k .before .args .k .0) _ (subst (Within partMax) (sym (k .coefficient .ensures .0)) (k .coefficient .ensures .1))))
+    (k .before .pre .0, subst (Within partMax) (sym (c .turn .ensures)) (within-turned partMax (k .before .args .k .0) _ (subst (Within partMax) (sym (k .coefficient .ensures .0)) (k .coefficient .ensures .1))))
 
 returns : tie.Need-returns
 returns c =
