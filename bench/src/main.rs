@@ -1,5 +1,5 @@
 //! Prints a table of times: the calls of this repository, from the archive of the crate `speed`, and the Rust's, on the
-//! same random rows, in one process, and for the matrix and the pairwise product the limits in C. Before a call is timed
+//! same random rows, in one process, and the limits in C. Before a call is timed
 //! all sides do it once, and what they leave is compared. With --matrix-edges nothing is timed: the matrix is compared at
 //! the row counts that are the edges of its blocks. With --limits: both limits at once, with the stack that each call takes
 //! and the refusals one past the limits.
@@ -16,6 +16,7 @@ mod ours;
 #[path = "../../compare/src/random.rs"]
 #[allow(dead_code)]
 mod random;
+mod reducing;
 mod rows;
 mod stack;
 mod table;
@@ -46,6 +47,8 @@ fn main() {
         Some("--limits") => limits::run(),
         Some("--matrix-edges") => edges(),
         Some("--states") => pairs_alone(),
+        Some("--growth") => reducing::growth(),
+        Some("--short") => short(),
         _ => times(),
     }
 }
@@ -56,9 +59,22 @@ fn pairs_alone() {
     many_states(&mut random);
 }
 
+/// Rows of 1 to 8 words.
+fn short() {
+    let mut random = Random::of(1, 0);
+    table::header(&format!("{RUNS} runs of each side"));
+    for words in [1, 2, 3, 4, 8] {
+        let mut set = || Set::random(&mut random, 64 * words, 256);
+        pairwise(&set(), &set());
+        in_place(&set());
+        reducing::reduction(&set());
+    }
+}
+
 fn many_states(random: &mut Random) {
+    states(random, 4, 256, 16);
     for block in [1, 16] {
-        states(random, block);
+        states(random, 256, TERMS, block);
     }
 }
 
@@ -72,7 +88,7 @@ fn times() {
     if let Some(why) = c_limits::NONE {
         println!("{why}");
     }
-    table::header(&format!("{RUNS} runs of each side ({FEW_RUNS} for the matrix of 4,096 rows)"));
+    table::long_header();
     for m in [64, 256, 4096] {
         matrix(&Set::random(&mut random, QUBITS, m));
     }
@@ -85,9 +101,12 @@ fn times() {
     for m in [256, 4096] {
         gates(&Set::random(&mut random, QUBITS, m));
     }
-    reduction(&Set::random(&mut random, QUBITS, 256));
+    for m in [64, 256, 4096] {
+        reducing::reduction(&Set::random(&mut random, QUBITS, m));
+    }
+    element(&mut random, 64, 16);
     for block in [TERMS, 16] {
-        element(&mut random, block);
+        element(&mut random, TERMS, block);
     }
     many_states(&mut random);
 }
@@ -232,14 +251,21 @@ fn in_place(set: &Set) {
     sweep(&mut ours);
     rust_sweep(&mut rust);
     agree(name, text(&ours), fields::set_text(&rust));
-    let sweeps = 25_600 / m;
+    let sweeps = 25_600_usize.div_ceil(m);
+    let limit = |(name, work): (&'static str, c_limits::InPlace)| {
+        let mut other = c_limits::Rows::of(set);
+        work(&mut other);
+        agree(name, other.are(&ours).to_string(), true.to_string());
+        (name, side(sweeps * m, move || time(|| (0..sweeps).for_each(|_| work(black_box(&mut other))))))
+    };
+    let ways = c_limits::IN_PLACE.into_iter().map(limit).collect();
     line(
         name,
         &size(set),
         RUNS,
         side(sweeps * m, || time(|| (0..sweeps).for_each(|_| sweep(black_box(&mut ours))))),
         side(sweeps * m, || time(|| (0..sweeps).for_each(|_| rust_sweep(black_box(&mut rust))))),
-        vec![],
+        ways,
     );
 }
 
@@ -276,42 +302,14 @@ fn gates(set: &Set) {
     }
 }
 
-fn reduction(set: &Set) {
-    let name = "canonicalize_all";
-    let m = set.m;
-    // room for the most entries that the rule can need
-    let mut log = vec![0; 2 * m * m];
-    let (mut ours, mut rust) = (set.clone(), set.terms());
-    let (code, entries, _) = ours::canonicalize_all(&mut ours, &mut log);
-    assert_eq!(code, 0);
-    let pairs = log[..2 * entries].chunks(2).map(|pair| (pair[0] as usize, pair[1] as usize)).collect::<Vec<_>>();
-    let rust_pairs = rust.canonicalize_all();
-    let whole = |pairs: &[(usize, usize)], rows: String| format!("{} {rows}", fields::log_text(pairs));
-    agree(name, whole(&pairs, text(&ours)), whole(&rust_pairs, fields::set_text(&rust)));
-    let start = set.terms();
-    line(
-        name,
-        &size(set),
-        RUNS,
-        side(1, || {
-            let mut rows = set.clone();
-            time(|| assert_eq!(ours::canonicalize_all(black_box(&mut rows), &mut log).0, 0))
-        }),
-        side(1, || {
-            let mut rows = start.clone();
-            time(|| drop(black_box(black_box(&mut rows).canonicalize_all())))
-        }),
-        vec![],
-    );
-}
-
 /// The element of the block in the middle.
-fn element(random: &mut Random, block: usize) {
+fn element(random: &mut Random, terms: usize, block: usize) {
     let name = "mat_elem_cmpnts_from_presorted";
-    let op = Operator::random(random, TERMS, block);
+    let op = Operator::random(random, terms, block);
     let (terms, blocks) = op.terms();
     let ket = random.word();
-    let bra = ket ^ op.x[TERMS / 2];
+    let x = op.x[op.x.len() / 2];
+    let bra = ket ^ x;
     let state = |word: u64| {
         let mut out = StateList::new(Qubits::from_count(op.n));
         out.push_u64it([word].into_iter());
@@ -331,25 +329,35 @@ fn element(random: &mut Random, block: usize) {
     assert_eq!(code, 0);
     let sum = rust();
     agree(name, bits(re, im), bits(sum.re, sum.im));
-    let (calls, rust_calls) = (5, 5 * TERMS / block);
+    let (calls, rust_calls) = (5 * TERMS / op.x.len(), 5 * TERMS / block);
+    let first = op.x.partition_point(|word| *word < x);
+    let place = c_limits::Block { ket, first, last: first + block };
+    let op = &op;
+    let limit = |(name, work): (&'static str, c_limits::Element)| {
+        let (real, imag) = work(op, place);
+        agree(name, bits(real, imag), bits(re, im));
+        (name, side(calls, move || time(|| (0..calls).for_each(|_| _ = black_box(work(black_box(op), place))))))
+    };
+    let ways = c_limits::ELEMENT.into_iter().map(limit).collect();
     line(
         name,
         &format!("{} terms, {block} in the block", terms.len()),
         RUNS,
-        side(calls, || time(|| (0..calls).for_each(|_| assert_eq!(ours::mat_elem(black_box(&op), bra, ket).0, 0)))),
+        side(calls, || time(|| (0..calls).for_each(|_| assert_eq!(ours::mat_elem(black_box(op), bra, ket).0, 0)))),
         side(rust_calls, || time(|| (0..rust_calls).for_each(|_| _ = black_box(rust())))),
-        vec![],
+        ways,
     );
 }
 
-/// The sum over all pairs of 256 bras and 256 kets; every pair has a block.
-fn states(random: &mut Random, block: usize) {
+/// The sum over all pairs of so many bras and kets; every pair has a block.
+fn states(random: &mut Random, vectors: usize, terms: usize, block: usize) {
     let name = "mat_elem_from_presorted";
-    let op = WholeOperator::random(random, TERMS, block);
+    let op = WholeOperator::random(random, terms, block);
+    let kinds = terms / block;
+    let size = format!("{} pairs, {terms} terms, {block} in a block", vectors * vectors);
     let (terms, blocks) = op.terms();
-    let kinds = TERMS / block;
-    let words = |step: usize| (0..256).map(|i| (i * step % kinds) as u64).collect::<Vec<_>>();
-    let (bra, ket) = (words((kinds / 256).max(1)), words(1));
+    let words = |step: usize| (0..vectors).map(|i| (i * step % kinds) as u64).collect::<Vec<_>>();
+    let (bra, ket) = (words((kinds / vectors).max(1)), words(1));
     let (bra, ket) = (States::random(random, bra), States::random(random, ket));
     let (bras, kets) = (bra.terms(op.n), ket.terms(op.n));
     let rust = || mat_elem_from_presorted(black_box(&terms), black_box(&blocks), black_box(&bras), black_box(&kets));
@@ -357,12 +365,17 @@ fn states(random: &mut Random, block: usize) {
     assert_eq!(code, 0);
     let sum = rust();
     agree(name, format!("{re} {im}"), format!("{} {}", sum.re, sum.im));
+    let calls = (4096 / (vectors * vectors)).max(1);
     line(
         name,
-        &format!("65536 pairs, {TERMS} terms, {block} in a block"),
+        &size,
         RUNS,
-        side(1, || time(|| assert_eq!(ours::mat_elem_of_states(black_box(&op), &bra, &ket).0, 0))),
-        side(1, || time(|| _ = black_box(rust()))),
+        side(calls, || {
+            time(|| {
+                (0..calls).for_each(|_| assert_eq!(ours::mat_elem_of_states(black_box(&op), &bra, &ket).0, 0));
+            })
+        }),
+        side(calls, || time(|| (0..calls).for_each(|_| _ = black_box(rust())))),
         vec![],
     );
 }

@@ -1,5 +1,6 @@
 //! Taking times and printing them.
 
+use std::io::Write;
 use std::time::Duration;
 
 /// How often each side is timed; the table has the median.
@@ -48,21 +49,30 @@ pub fn side<'a>(calls: usize, run: impl FnMut() -> Duration + 'a) -> Side<'a> {
     Side(calls, Box::new(run))
 }
 
+/// The header of a table with calls of many rows.
+pub fn long_header() {
+    header(&format!("{RUNS} runs of each side ({FEW_RUNS} for more than 256 rows of the matrix and of a reduction)"));
+}
+
 pub fn header(runs: &str) {
     println!("median of {runs}, turn about, in the thread's own processor time");
     println!();
-    println!("| call | size | ours | the Rust | ours / the Rust |");
-    println!("|---|---|---:|---:|---:|");
+    println!("| call | size | ours | limit in C | the Rust | ours / the Rust | limit / the Rust |");
+    println!("|---|---|---:|---:|---:|---:|---:|");
+    if let Some(path) = numbers() {
+        std::fs::write(path, "call\tsize\tours\tlimit\tthe Rust\n").expect("the numbers can be written");
+    }
 }
 
-/// Times all sides, turn about, and prints a line for ours and for each that is named, against the Rust's.
-pub fn line(name: &str, size: &str, runs: usize, ours: Side, rust: Side, others: Vec<(&str, Side)>) {
-    let mut names = vec![name];
+/// The file that has each line's seconds again, tab after tab, if one is named.
+fn numbers() -> Option<String> {
+    std::env::var("MEASURE_NUMBERS").ok()
+}
+
+/// Times all sides, turn about, and prints a line: ours, the fastest of the ways in C if there is one, and the Rust.
+pub fn line(name: &str, size: &str, runs: usize, ours: Side, rust: Side, ways: Vec<(&str, Side)>) {
     let mut sides = vec![rust, ours];
-    for (name, side) in others {
-        names.push(name);
-        sides.push(side);
-    }
+    sides.extend(ways.into_iter().map(|(_, side)| side));
     let mut times = vec![vec![]; sides.len()];
     // the first turn fills the caches and is not counted
     for turn in 0..=runs {
@@ -74,9 +84,21 @@ pub fn line(name: &str, size: &str, runs: usize, ours: Side, rust: Side, others:
         }
     }
     let medians = sides.iter().zip(times).map(|(side, times)| side.median(times)).collect::<Vec<_>>();
-    let rust_time = medians[0];
-    for (name, time) in names.iter().zip(&medians[1..]) {
-        println!("| {name} | {size} | {} | {} | {} |", short(*time), short(rust_time), shown(time / rust_time));
+    let (rust, ours) = (medians[0], medians[1]);
+    let limit = medians[2..].iter().copied().reduce(f64::min);
+    let told = |text: fn(f64) -> String, value: Option<f64>| value.map(text).unwrap_or_default();
+    println!(
+        "| {name} | {size} | {} | {} | {} | {} | {} |",
+        short(ours),
+        told(short, limit),
+        short(rust),
+        shown(ours / rust),
+        told(shown, limit.map(|limit| limit / rust))
+    );
+    if let Some(path) = numbers() {
+        let limit = limit.map(|limit| format!("{limit:e}")).unwrap_or_default();
+        let mut file = std::fs::OpenOptions::new().append(true).open(path).expect("the numbers' file");
+        writeln!(file, "{name}\t{size}\t{ours:e}\t{limit}\t{rust:e}").expect("the numbers can be written");
     }
 }
 
