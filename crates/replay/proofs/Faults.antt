@@ -90,25 +90,27 @@ module _ (T : Task) (L : Claim) {a b s f : ℕ} (pa : a ≡ reduceFault (T .n) (
         let p = least-none a b (sym e ∙ none .0) in
         record { of-task = ta (p .0); of-claim = record { claimed-set = tb (p .1); as-many = many } }
 
-    -- refused: nothing is changed
-    pub refusing : (f ≡ 0 → ⊥) → Checked T L (Refused f) (T .start)
-    refusing ne =
-        record {
-          answer = go f ne ∙ ap (λ k. givenOr k (verdictOn T L)) check-number;
-          rows = kept f (T .start) (workingFor T L) ne ∙ ap (λ k. leftOr k (T .start) (workingFor T L)) check-number;
-          passed = λ z. check-passed (check-number ∙ z);
-        }
-      where
-        go : (k : ℕ) → (k ≡ 0 → ⊥) → Refused k ≡ givenOr k (verdictOn T L)
-        go zero h = absurd (h refl)
-        go (suc k) h = refl
+-- by the number, and what it tells
+module _ (T : Task) (L : Claim) {f : ℕ} (number : f ≡ checkFault T L) (passed : f ≡ 0 → Passed T (L .rows)) where
+  -- refused: nothing is changed
+  pub refusing : (f ≡ 0 → ⊥) → Checked T L (Refused f) (T .start)
+  refusing ne =
+      record {
+        answer = go f ne ∙ ap (λ k. givenOr k (verdictOn T L)) number;
+        rows = kept f (T .start) (workingFor T L) ne ∙ ap (λ k. leftOr k (T .start) (workingFor T L)) number;
+        passed = λ z. passed (number ∙ z);
+      }
+    where
+      go : (k : ℕ) → (k ≡ 0 → ⊥) → Refused k ≡ givenOr k (verdictOn T L)
+      go zero h = absurd (h refl)
+      go (suc k) h = refl
 
-    -- not refused: what the worker says
-    pub judging : {r : Verdict} {left : Mem} → f ≡ 0 → Judged T L r left → Checked T L r left
-    judging z j =
-        let n : checkFault T L ≡ 0 = sym check-number ∙ z in
-        record {
-          answer = j .answer ∙ ap (λ k. givenOr k (verdictOn T L)) (sym n);
-          rows = j .rows ∙ ap (λ k. leftOr k (T .start) (workingFor T L)) (sym n);
-          passed = λ _. check-passed z;
-        }
+  -- not refused: what the worker says
+  pub judging : {r : Verdict} {left : Mem} → f ≡ 0 → Judged T L r left → Checked T L r left
+  judging z j =
+      let n : checkFault T L ≡ 0 = sym number ∙ z in
+      record {
+        answer = j .answer ∙ ap (λ k. givenOr k (verdictOn T L)) (sym n);
+        rows = j .rows ∙ ap (λ k. leftOr k (T .start) (workingFor T L)) (sym n);
+        passed = λ _. passed z;
+      }

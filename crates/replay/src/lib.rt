@@ -5,7 +5,7 @@ ghost use mathlib.Core.List.{[], _∷_};
 ghost use lib.Dec.{eqb};
 ghost use Rattle.encoding.specs.Lent.{lent, before, after};
 ghost use Rattle.encoding.specs.Ranks.{byRank, line};
-ghost use Rattle.replay.specs.Check.{task, claim, oddLog, Passed, given, verdictOn, Checked};
+ghost use Rattle.replay.specs.Check.{task, claim, oddLog, checkFault, Passed, given, verdictOn, Checked};
 ghost use Rattle.replay.specs.Steps.{Judged};
 use encoding::pick;
 use encoding::set_fault;
@@ -103,6 +103,31 @@ fn judge(
     compare(n, m, x, z, phases, order, listed, extra, cx, cz, cphases)
 }
 
+// The first line of the table, by rank, that fits what a check is given, or 0.
+pub fn check_fault(
+    n: usize,
+    m: usize,
+    x: &[u64],
+    z: &[u64],
+    phases: &[u64],
+    order: &[u16],
+    listed: &[u16],
+    extra: &[u16],
+    log: &[u16],
+    cx: &[u64],
+    cz: &[u64],
+    cphases: &[u64],
+) -> u8
+    ensures { λ r. ⌜ r ≡ checkFault (task n (before m x z phases) (now (order .entry)) (now (listed .entry)) (now (extra .entry)))
+        (claim (now (log .entry)) (before m cx cz cphases)) ⌝ }
+    ensures passed { λ r. ⌜ (r ≡ 0 → Passed (task n (before m x z phases) (now (order .entry)) (now (listed .entry)) (now (extra .entry)))
+        (before m cx cz cphases)) ⌝ }
+{
+    let a = reduce_fault(n, m, x, z, phases, order, listed, extra);
+    let b = set_fault(n, m, cx, cz, cphases);
+    log_fault(smaller(a, b), log.len())
+}
+
 // The replay checker. x, z and phases come in as the starting rows and end as the replayed ones; at a refusal or a bad entry they are unchanged.
 pub fn check(
     n: usize,
@@ -121,9 +146,20 @@ pub fn check(
     ensures { λ r. ⌜ Checked (task n (before m x z phases) (now (order .entry)) (now (listed .entry)) (now (extra .entry)))
         (claim (now (log .entry)) (before m cx cz cphases)) r (after m x z phases) ⌝ }
 {
-    let a = reduce_fault(n, m, x, z, phases, order, listed, extra);
-    let b = set_fault(n, m, cx, cz, cphases);
-    let f = log_fault(smaller(a, b), log.len());
+    let f = check_fault(
+        n,
+        m,
+        x,
+        z,
+        phases,
+        order,
+        listed,
+        extra,
+        log,
+        cx,
+        cz,
+        cphases,
+    );
     if f != 0 {
         return Verdict::Refused(f);
     }

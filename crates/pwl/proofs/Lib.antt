@@ -1,0 +1,14 @@
+pub mod Kit
+pub mod Round
+pub mod Parts
+pub mod Image
+pub mod Numbers
+pub mod Opens
+pub mod Stores
+pub mod Writes
+pub mod Fetches
+pub mod Tests
+pub mod Runs
+pub mod Filling
+pub mod Meaning
+pub mod Examples

@@ -1,0 +1,133 @@
+-- What writing a file leaves: a run that the table passed is as long as its front says, so that the front's length is that of the image. Assumes nothing.
+use Rattle.pwl.proofs.Kit.{_≡_, refl, sym, ap, _∙_, subst, Bool, true, false, cond, List, [], _∷_, _++_, ℕ, zero, suc, _+_, _*_, _/_, _%_, _≤_, arith, ltb, ltb-true, ltb-false, lt-ltb, le-ltb, length, drop}
+use native.Mathlib.Nat.{suc-ne-zero}
+use borrow.Author.Tests.{eqb-false}
+use Rattle.encoding.specs.Words.{odd}
+use Rattle.encoding.specs.Refusals.{fault, leftOr}
+use Rattle.encoding.specs.Ranks.{TableLine, byRank, numbered}
+use Rattle.encoding.proofs.Faults.{orElse, or-none, or-first, kept}
+use Rattle.encoding.proofs.Ranks.{ranked}
+use Rattle.encoding.proofs.Exponents.{laid-long}
+use Rattle.terms.specs.Refused.{columnTwice}
+use Rattle.replay.specs.Check.{checkTests, oddLog, Passed}
+use Rattle.pwl.specs.declared.Written.{Written}
+use Rattle.pwl.specs.declared.Written.the-variants as written
+use Rattle.pwl.specs.File.{Run, frontFor, body, image, Shape, shape, shapesBy, shapesOf, wholeLen, lengthLines}
+use Rattle.pwl.specs.Calls.{taskOf, claimOf, runLines, shortLine, writeFault, lengthOr, ImageWritten, Writes}
+use Rattle.pwl.specs.Workers.{Shaped, Imaged}
+use Rattle.pwl.proofs.Image.{whole-length}
+
+-- ---- lines, and lines below them
+
+-- no line has the number 0
+abbrev Numbered : List TableLine → Type 0
+Numbered [] = Unit {0}
+Numbered (l ∷ ls) = (l .number ≡ 0 → ⊥) × Numbered ls
+
+first : (b : Bool) (k rest more : ℕ) → (k ≡ 0 → ⊥) → (k′ : ℕ) → k′ ≡ orElse rest more → cond b k k′ ≡ orElse (cond b k rest) more
+first true zero rest more n k′ e = absurd (n refl)
+first true (suc k) rest more n k′ e = refl
+first false k rest more n k′ e = e
+
+pub rank-append : (ls ks : List TableLine) → Numbered ls → byRank (ls ++ ks) ≡ orElse (byRank ls) (byRank ks)
+unfolding byRank
+rank-append [] ks n = refl
+rank-append (l ∷ ls) ks n = first (l .holds) (l .number) (byRank ls) (byRank ks) (n .0) (byRank (ls ++ ks)) (rank-append ls ks (n .1))
+
+pub numbered-append : (k : ℕ) (ts : List Bool) (ls : List TableLine) → Numbered ls → Numbered (numbered (suc k) ts ++ ls)
+unfolding numbered
+numbered-append k [] ls n = n
+numbered-append k (t ∷ ts) ls n = ((λ z. suc-ne-zero k z), numbered-append (suc k) ts ls n)
+
+pub run-numbered : (r : Run) → Numbered (runLines r)
+run-numbered r = numbered-append 0 (checkTests (taskOf r) (claimOf r)) _ ((λ z. suc-ne-zero 14 z), ((λ z. suc-ne-zero 8 z), tt))
+
+-- ---- what the table leaves
+
+last-off : (a b : Bool) → _≡_ {A = ℕ} (cond a 15 (cond b 9 0)) 0 → b ≡ false
+last-off true b e = absurd (suc-ne-zero 14 e)
+last-off false true e = absurd (suc-ne-zero 8 e)
+last-off false false e = refl
+
+even-log : (r : Run) → byRank (runLines r) ≡ 0 → odd (length (r .log)) ≡ false
+unfolding byRank
+even-log r z =
+    let ts = checkTests (taskOf r) (claimOf r) in
+    let ls = columnTwice (r .order) ∷ oddLog (length (r .log)) ∷ [] in
+    last-off (columnTwice (r .order) .holds) (odd (length (r .log))) (or-none (fault ts) (byRank ls) (sym (ranked 0 ts ls) ∙ z) .1)
+
+halves : (k : ℕ) → odd k ≡ false → k ≡ 2 * (k / 2)
+halves k e = omega (arith, eqb-false (k % 2) 1 e)
+
+shapes-are : (a b c x x′ z z′ p p′ l l′ y y′ u u′ q q′ : ℕ) → x ≡ x′ → z ≡ z′ → p ≡ p′ → l ≡ l′ → y ≡ y′ → u ≡ u′ → q ≡ q′
+    → _≡_ {A = List Shape} (shape 2 a ∷ shape 2 b ∷ shape 2 c ∷ shape 8 x ∷ shape 8 z ∷ shape 8 p ∷ shape 2 l ∷ shape 8 y ∷ shape 8 u ∷ shape 8 q ∷ [])
+    (shape 2 a ∷ shape 2 b ∷ shape 2 c ∷ shape 8 x′ ∷ shape 8 z′ ∷ shape 8 p′ ∷ shape 2 l′ ∷ shape 8 y′ ∷ shape 8 u′ ∷ shape 8 q′ ∷ [])
+shapes-are a b c x x′ z z′ p p′ l l′ y y′ u u′ q q′ e1 e2 e3 e4 e5 e6 e7 = rw (e1, e2, e3, e4, e5, e6, e7)
+
+pub shaped : (r : Run) → byRank (runLines r) ≡ 0 → Passed (taskOf r) (claimOf r .rows) → Shaped r
+unfolding body shapesOf shapesBy
+shaped r z p =
+    let s = p .of-task .sound in
+    let c = p .of-claim .claimed-set in
+    record {
+      small-n = omega (arith, s .few-qubits);
+      small-m = omega (arith, s .few-rows);
+      long =
+          shapes-are (length (r .order)) (length (r .listed)) (length (r .extra)) _ _ _ _ _ _ _ _ _ _ _ _ _ _
+          (s .valid .x-long) (s .valid .z-long) (laid-long (r .m) (s .valid .exponents)) (halves (length (r .log)) (even-log r z))
+          (c .x-long) (c .z-long) (laid-long (r .m) (c .exponents));
+    }
+
+-- ---- the call
+
+-- 19 of the length is 14 of the output
+by-length : (b c : Bool) {k : ℕ} → k ≡ cond b 19 (cond c 20 0) → (k ≡ 19 → b ≡ true) × ((k ≡ 19 → ⊥) → b ≡ false)
+by-length true c e = ((λ _. refl), (λ n. absurd (n e)))
+by-length false true e = ((λ g. absurd (omega (arith, e, g))), (λ _. refl))
+by-length false false e = ((λ g. absurd (omega (arith, e, g))), (λ _. refl))
+
+module _ (r : Run) (out : List ℕ) (s : Shaped r) {k : ℕ} (e : k ≡ byRank (lengthLines (length out) (wholeLen (frontFor r)))) where
+  pub run-short : k ≡ 19 → ImageWritten (byRank (shortLine r out ∷ [])) r out out (written.Refused 14)
+  unfolding byRank
+  run-short g =
+      let h = ltb-true (length out) (wholeLen (frontFor r)) (by-length (ltb (length out) (wholeLen (frontFor r))) (ltb (wholeLen (frontFor r)) (length out)) e .0 g) in
+      let z : 14 ≡ byRank (shortLine r out ∷ []) = simp (lt-ltb (length out) (length (image r)) (omega (arith, h, whole-length r (s .long)))) in
+      record { answer = ap (λ (f : ℕ). lengthOr f (length (image r))) z; bytes = ap (λ (f : ℕ). leftOr f out (image r ++ drop (length (image r)) out)) z }
+
+  pub run-room : (k ≡ 19 → ⊥) → length (image r) ≤ length out
+  unfolding byRank
+  run-room g =
+      let h = ltb-false (length out) (wholeLen (frontFor r)) (by-length (ltb (length out) (wholeLen (frontFor r))) (ltb (wholeLen (frontFor r)) (length out)) e .1 g) in
+      omega (arith, h, whole-length r (s .long))
+
+  pub run-whole : (k ≡ 19 → ⊥) → {p : List ℕ} {n : ℕ} → Imaged r out p n → ImageWritten (byRank (shortLine r out ∷ [])) r out p (written.Length n)
+  unfolding byRank
+  run-whole g {p} {n} w =
+      let z : 0 ≡ byRank (shortLine r out ∷ []) = simp (le-ltb (length out) (length (image r)) (run-room g)) in
+      let j : 0 + length (image r) ≡ length (image r) = omega arith in
+      record {
+        answer = ap written.Length (w .place) ∙ ap (λ (f : ℕ). lengthOr f (length (image r))) z;
+        bytes =
+            w .bytes ∙ ap (λ (j : ℕ). image r ++ drop j out) j
+            ∙ ap (λ (f : ℕ). leftOr f out (image r ++ drop (length (image r)) out)) z;
+      }
+
+module _ (r : Run) (out : List ℕ) {f : ℕ} (e : f ≡ byRank (runLines r)) where
+  in-turn : writeFault r out ≡ orElse f (byRank (shortLine r out ∷ []))
+  in-turn = rank-append (runLines r) (shortLine r out ∷ []) (run-numbered r) ∙ ap (λ (k : ℕ). orElse k (byRank (shortLine r out ∷ []))) (sym e)
+
+  pub write-refused : (f ≡ 0 → ⊥) → Writes r out out (written.Refused f)
+  write-refused n =
+      let z : f ≡ writeFault r out = sym (in-turn ∙ or-first f _ n) in
+      record {
+        answer = go f n ∙ ap (λ (k : ℕ). lengthOr k (length (image r))) z;
+        bytes = kept f out (image r ++ drop (length (image r)) out) n ∙ ap (λ (k : ℕ). leftOr k out (image r ++ drop (length (image r)) out)) z;
+      }
+    where
+      go : (k : ℕ) → (k ≡ 0 → ⊥) → written.Refused k ≡ lengthOr k (length (image r))
+      go zero h = absurd (h refl)
+      go (suc k) h = refl
+
+  pub write-done : f ≡ 0 → {p : List ℕ} {a : Written} → ImageWritten (byRank (shortLine r out ∷ [])) r out p a → Writes r out p a
+  write-done z {p} {a} w =
+      subst (λ (k : ℕ). ImageWritten k r out p a) (sym (in-turn ∙ ap (λ (k : ℕ). orElse k (byRank (shortLine r out ∷ []))) z)) w
