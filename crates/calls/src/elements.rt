@@ -4,55 +4,16 @@ ghost use lib.ListN.{length};
 use crate::ANSWER;
 use crate::STATES;
 use crate::TERMS;
+use forms::read;
+use forms::read::Between;
+use forms::read::Terms;
+use forms::read::Vectors;
 use forms::say;
 use text::Put;
-
-// The place behind the two lists of parts has bra and ket, and the line's end.
-struct Between {
-    ok: bool,
-    bra: u64,
-    ket: u64,
-}
-
-fn read_between(s: &[u8], at: usize) -> Between {
-    let a = text::word_field(s, at);
-    let b = text::word_field(s, a.at);
-    Between {
-        ok: a.ok & (b.ok & (b.at == s.len())),
-        bra: a.value,
-        ket: b.value,
-    }
-}
-
-// n X Z
-struct Terms {
-    ok: bool,
-    n: usize,
-    x: usize,
-    z: usize,
-    at: usize,
-}
-
-fn read_terms(s: &[u8], at: usize, x: &mut [u64], z: &mut [u64]) -> Terms
-    ensures { λ r. ⌜ (r .x ≤ length (now (x .exit))) × (r .z ≤ length (now (z .exit))) ⌝ }
-{
-    let n = text::number_field(s, at, u64::MAX);
-    let a = text::words_field(s, n.at, x);
-    let b = text::words_field(s, a.at, z);
-    Terms {
-        ok: n.ok & (a.ok & b.ok),
-        n: n.value as usize,
-        x: a.count,
-        z: b.count,
-        at: b.at,
-    }
-}
 
 // On the parts that the line filled.
 fn lent_whole(
     q: Terms,
-    k: usize,
-    l: usize,
     t: Between,
     x: &[u64],
     z: &[u64],
@@ -61,10 +22,12 @@ fn lent_whole(
     out: &mut [u8],
     r: Put,
 ) -> Put
-    requires { ⌜ (q .x ≤ length (now x)) × (q .z ≤ length (now z)) × (k ≤ length (now re)) × (l ≤ length (now im)) ⌝ }
+    requires { ⌜ (q .x ≤ length (now x)) × (q .z ≤ length (now z)) × (q .re ≤ length (now re)) × (q .im ≤ length (now im)) ⌝ }
 {
     let i = q.x;
     let j = q.z;
+    let k = q.re;
+    let l = q.im;
     let e = mat_elem::whole::mat_elem_cmpnts_from_presorted(
         q.n,
         &x[0..i],
@@ -87,21 +50,17 @@ pub(crate) fn whole(
     out: &mut [u8; ANSWER],
     r: Put,
 ) -> Put {
-    let q = read_terms(s, at, x, z);
-    let a = text::ints_field(s, q.at, re);
-    let b = text::ints_field(s, a.at, im);
-    let t = read_between(s, b.at);
-    if !(q.ok & (a.ok & (b.ok & t.ok))) {
+    let q = read::read_whole(s, at, x, z, re, im);
+    let t = read::read_between(s, q.at);
+    if !(q.ok & (t.ok & (t.at == s.len()))) {
         return say::bad(out, r);
     }
-    lent_whole(q, a.count, b.count, t, x, z, re, im, out, r)
+    lent_whole(q, t, x, z, re, im, out, r)
 }
 
 // On the parts that the line filled.
 fn lent_float(
     q: Terms,
-    k: usize,
-    l: usize,
     t: Between,
     x: &[u64],
     z: &[u64],
@@ -110,10 +69,12 @@ fn lent_float(
     out: &mut [u8],
     r: Put,
 ) -> Put
-    requires { ⌜ (q .x ≤ length (now x)) × (q .z ≤ length (now z)) × (k ≤ length (now re)) × (l ≤ length (now im)) ⌝ }
+    requires { ⌜ (q .x ≤ length (now x)) × (q .z ≤ length (now z)) × (q .re ≤ length (now re)) × (q .im ≤ length (now im)) ⌝ }
 {
     let i = q.x;
     let j = q.z;
+    let k = q.re;
+    let l = q.im;
     let e = mat_elem::float::mat_elem_cmpnts_from_presorted(
         q.n,
         &x[0..i],
@@ -136,49 +97,21 @@ pub(crate) fn float(
     out: &mut [u8; ANSWER],
     r: Put,
 ) -> Put {
-    let q = read_terms(s, at, x, z);
-    let a = text::floats_field(s, q.at, re);
-    let b = text::floats_field(s, a.at, im);
-    let t = read_between(s, b.at);
-    if !(q.ok & (a.ok & (b.ok & t.ok))) {
+    let q = read::read_floats(s, at, x, z, re, im);
+    let t = read::read_between(s, q.at);
+    if !(q.ok & (t.ok & (t.at == s.len()))) {
         return say::bad(out, r);
     }
-    lent_float(q, a.count, b.count, t, x, z, re, im, out, r)
+    lent_float(q, t, x, z, re, im, out, r)
 }
 
 // ---- states of many basis vectors
 
-// W RE IM: how many words, real and imaginary parts.
-struct State {
-    ok: bool,
-    w: usize,
-    re: usize,
-    im: usize,
-    at: usize,
-}
-
-fn read_vectors(s: &[u8], at: usize, w: &mut [u64], re: &mut [i32], im: &mut [i32]) -> State
-    ensures { λ r. ⌜ (r .w ≤ length (now (w .exit))) × (r .re ≤ length (now (re .exit))) × (r .im ≤ length (now (im .exit))) ⌝ }
-{
-    let a = text::words_field(s, at, w);
-    let b = text::ints_field(s, a.at, re);
-    let c = text::ints_field(s, b.at, im);
-    State {
-        ok: a.ok & (b.ok & c.ok),
-        w: a.count,
-        re: b.count,
-        im: c.count,
-        at: c.at,
-    }
-}
-
 // On the parts that the line filled.
 fn lent_states(
     q: Terms,
-    k: usize,
-    l: usize,
-    f: State,
-    g: State,
+    f: Vectors,
+    g: Vectors,
     x: &[u64],
     z: &[u64],
     re: &[i32],
@@ -192,12 +125,14 @@ fn lent_states(
     out: &mut [u8],
     r: Put,
 ) -> Put
-    requires { ⌜ (q .x ≤ length (now x)) × (q .z ≤ length (now z)) × (k ≤ length (now re)) × (l ≤ length (now im)) ⌝ }
+    requires { ⌜ (q .x ≤ length (now x)) × (q .z ≤ length (now z)) × (q .re ≤ length (now re)) × (q .im ≤ length (now im)) ⌝ }
     requires { ⌜ (f .w ≤ length (now bras)) × (f .re ≤ length (now bre)) × (f .im ≤ length (now bim)) ⌝ }
     requires { ⌜ (g .w ≤ length (now kets)) × (g .re ≤ length (now kre)) × (g .im ≤ length (now kim)) ⌝ }
 {
     let i = q.x;
     let j = q.z;
+    let k = q.re;
+    let l = q.im;
     let bw = f.w;
     let br = f.re;
     let bi = f.im;
@@ -236,18 +171,14 @@ fn states(
     out: &mut [u8; ANSWER],
     r: Put,
 ) -> Put {
-    let q = read_terms(s, at, x, z);
-    let a = text::ints_field(s, q.at, re);
-    let b = text::ints_field(s, a.at, im);
-    let f = read_vectors(s, b.at, bras, bre, bim);
-    let g = read_vectors(s, f.at, kets, kre, kim);
-    if !(q.ok & (a.ok & (b.ok & (f.ok & (g.ok & (g.at == s.len())))))) {
+    let q = read::read_whole(s, at, x, z, re, im);
+    let f = read::read_vectors(s, q.at, bras, bre, bim);
+    let g = read::read_vectors(s, f.at, kets, kre, kim);
+    if !(q.ok & (f.ok & (g.ok & (g.at == s.len())))) {
         return say::bad(out, r);
     }
     lent_states(
         q,
-        a.count,
-        b.count,
         f,
         g,
         x,

@@ -4,12 +4,16 @@ use mathlib.Core.Bool.{Bool}
 use mathlib.Core.List.{List, []}
 use Prim.Native.Nat.{ℕ, _≤_}
 use lib.ListN.{length, take, drop}
+use lib.IntN.{ℤ}
+use lib.Ieee.{Float}
 use Rattle.text.specs.Readers.{Reads, answer}
 use Rattle.text.specs.Lines.{fields}
-use Rattle.forms.specs.Form.{setKinds, rowsKinds, listKinds, rest, lengths}
+use Rattle.forms.specs.Form.{setKinds, rowsKinds, wholeKinds, floatKinds, stateKinds, listKinds, rest, lengths}
 use Rattle.forms.specs.declared.read.Set.{Set}
 use Rattle.forms.specs.declared.read.Rows.{Rows}
 use Rattle.forms.specs.declared.read.Lists.{Lists}
+use Rattle.forms.specs.declared.read.Terms.{Terms}
+use Rattle.forms.specs.declared.read.Vectors.{Vectors}
 use Rattle.forms.specs.declared.read.Lengths.{Lengths}
 
 -- X Z P
@@ -45,3 +49,25 @@ pub record LengthsRead (i j k m : ℕ) (s : List ℕ) (at : ℕ) (r : Lengths) :
   pub room-z : r .z ≤ j
   pub room-p : r .p ≤ k
   pub room-c : r .c ≤ m
+
+-- n X Z RE IM
+pub record WholeRead (s : List ℕ) (at : ℕ) (x x′ z z′ : List ℕ) (a a′ b b′ : List ℤ) (r : Terms) : Type 0 where
+  pub is : Reads (fields (wholeKinds (length x) (length z) (length a) (length b))) s at (r .ok) (r .n, (take (r .x) x′, (take (r .z) z′, (take (r .re) a′, (take (r .im) b′, tt))))) (r .at)
+  pub room-x : r .x ≤ length x′
+  pub room-z : r .z ≤ length z′
+  pub room-re : r .re ≤ length a′
+  pub room-im : r .im ≤ length b′
+
+pub record FloatsRead (s : List ℕ) (at : ℕ) (x x′ z z′ : List ℕ) (a a′ b b′ : List Float) (r : Terms) : Type 0 where
+  pub is : Reads (fields (floatKinds (length x) (length z) (length a) (length b))) s at (r .ok) (r .n, (take (r .x) x′, (take (r .z) z′, (take (r .re) a′, (take (r .im) b′, tt))))) (r .at)
+  pub room-x : r .x ≤ length x′
+  pub room-z : r .z ≤ length z′
+  pub room-re : r .re ≤ length a′
+  pub room-im : r .im ≤ length b′
+
+-- W RE IM of a state
+pub record VectorsRead (s : List ℕ) (at : ℕ) (w w′ : List ℕ) (a a′ b b′ : List ℤ) (r : Vectors) : Type 0 where
+  pub is : Reads (fields (stateKinds (length w) (length a) (length b))) s at (r .ok) (take (r .w) w′, (take (r .re) a′, (take (r .im) b′, tt))) (r .at)
+  pub room-w : r .w ≤ length w′
+  pub room-re : r .re ≤ length a′
+  pub room-im : r .im ≤ length b′

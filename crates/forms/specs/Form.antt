@@ -1,13 +1,13 @@
 -- The lines of docs/CALLS.md behind their names, with room for so many words and bytes: the kinds of their fields in order.
 use mathlib.Core.Bool.{Bool, true, false, cond}
-use mathlib.Core.List.{List, [], _∷_, _++_}
+use mathlib.Core.List.{List, [], _∷_}
 use Prim.Native.Nat.{ℕ}
 use lib.Dec.{eqb}
 use Rattle.pauli.specs.declared.PauliMatrix.{PauliMatrix}
 use Rattle.pauli.specs.declared.PauliMatrix.the-variants.{I, X, Y, Z}
 use Rattle.text.specs.Readers.{Got, none, got}
 use Rattle.text.specs.Numbers.{number}
-use Rattle.text.specs.Lines.{Kind, word, one, words, numbers, ints, floats, field, marked, further}
+use Rattle.text.specs.Lines.{Kind, one, words, numbers, ints, floats, field, marked, further}
 
 -- one thing and then another
 abbrev pub then : {A B : Type 0} → (List ℕ → Got A) → (List ℕ → Got B) → List ℕ → Got (A × B)
@@ -24,6 +24,17 @@ setKinds i j k = words i ∷ words j ∷ words k ∷ []
 -- n m X Z P
 abbrev pub rowsKinds : ℕ → ℕ → ℕ → List Kind
 rowsKinds i j k = any ∷ any ∷ setKinds i j k
+
+-- n X Z and the parts RE IM of terms, whole or as the bits of an f64
+abbrev pub wholeKinds : ℕ → ℕ → ℕ → ℕ → List Kind
+wholeKinds i j k l = any ∷ words i ∷ words j ∷ ints k ∷ ints l ∷ []
+
+abbrev pub floatKinds : ℕ → ℕ → ℕ → ℕ → List Kind
+floatKinds i j k l = any ∷ words i ∷ words j ∷ floats k ∷ floats l ∷ []
+
+-- the words and the parts of a state
+abbrev pub stateKinds : ℕ → ℕ → ℕ → List Kind
+stateKinds i j k = words i ∷ ints j ∷ ints k ∷ []
 
 -- order listed extra
 abbrev pub listKinds : ℕ → ℕ → ℕ → List Kind

@@ -4,9 +4,9 @@ ghost use mathlib.Core.List.{[], _∷_};
 ghost use mathlib.Core.Path.{_≡_};
 ghost use mathlib.Core.Bool.{true, false};
 ghost use Rattle.text.specs.Readers.{Reads};
-ghost use Rattle.text.specs.Lines.{field, fields};
+ghost use Rattle.text.specs.Lines.{word, field, fields};
 ghost use Rattle.forms.specs.Form.{any, letter};
-ghost use Rattle.forms.specs.Fields.{SetRead, RowsRead, ListsRead, LengthsRead, RestRead};
+ghost use Rattle.forms.specs.Fields.{SetRead, RowsRead, ListsRead, LengthsRead, RestRead, WholeRead, FloatsRead, VectorsRead};
 ghost use Rattle.forms.specs.Workers.{Names};
 use pauli::PauliMatrix;
 use text::number_field;
@@ -225,5 +225,118 @@ pub fn read_rest(s: &[u8], at: usize) -> Rest
     Rest {
         ok: s[at] == b' ',
         from: at + 1,
+    }
+}
+
+// ---- matrix elements
+
+// n X Z RE IM: the terms, how many words and parts of each list.
+pub struct Terms {
+    pub ok: bool,
+    pub n: usize,
+    pub x: usize,
+    pub z: usize,
+    pub re: usize,
+    pub im: usize,
+    pub at: usize,
+}
+
+pub fn read_whole(
+    s: &[u8],
+    at: usize,
+    x: &mut [u64],
+    z: &mut [u64],
+    re: &mut [i32],
+    im: &mut [i32],
+) -> Terms
+    ensures { λ r. ⌜ WholeRead (now (s .entry)) at (now (x .entry)) (now (x .exit)) (now (z .entry)) (now (z .exit))
+        (now (re .entry)) (now (re .exit)) (now (im .entry)) (now (im .exit)) r ⌝ }
+{
+    let n = number_field(s, at, u64::MAX);
+    let a = text::words_field(s, n.at, x);
+    let b = text::words_field(s, a.at, z);
+    let c = text::ints_field(s, b.at, re);
+    let d = text::ints_field(s, c.at, im);
+    Terms {
+        ok: n.ok & (a.ok & (b.ok & (c.ok & d.ok))),
+        n: n.value as usize,
+        x: a.count,
+        z: b.count,
+        re: c.count,
+        im: d.count,
+        at: d.at,
+    }
+}
+
+pub fn read_floats(
+    s: &[u8],
+    at: usize,
+    x: &mut [u64],
+    z: &mut [u64],
+    re: &mut [f64],
+    im: &mut [f64],
+) -> Terms
+    ensures { λ r. ⌜ FloatsRead (now (s .entry)) at (now (x .entry)) (now (x .exit)) (now (z .entry)) (now (z .exit))
+        (now (re .entry)) (now (re .exit)) (now (im .entry)) (now (im .exit)) r ⌝ }
+{
+    let n = number_field(s, at, u64::MAX);
+    let a = text::words_field(s, n.at, x);
+    let b = text::words_field(s, a.at, z);
+    let c = text::floats_field(s, b.at, re);
+    let d = text::floats_field(s, c.at, im);
+    Terms {
+        ok: n.ok & (a.ok & (b.ok & (c.ok & d.ok))),
+        n: n.value as usize,
+        x: a.count,
+        z: b.count,
+        re: c.count,
+        im: d.count,
+        at: d.at,
+    }
+}
+
+// W RE IM: the words and the parts of a state.
+pub struct Vectors {
+    pub ok: bool,
+    pub w: usize,
+    pub re: usize,
+    pub im: usize,
+    pub at: usize,
+}
+
+pub fn read_vectors(s: &[u8], at: usize, w: &mut [u64], re: &mut [i32], im: &mut [i32]) -> Vectors
+    ensures { λ r. ⌜ VectorsRead (now (s .entry)) at (now (w .entry)) (now (w .exit))
+        (now (re .entry)) (now (re .exit)) (now (im .entry)) (now (im .exit)) r ⌝ }
+{
+    let a = text::words_field(s, at, w);
+    let b = text::ints_field(s, a.at, re);
+    let c = text::ints_field(s, b.at, im);
+    Vectors {
+        ok: a.ok & (b.ok & c.ok),
+        w: a.count,
+        re: b.count,
+        im: c.count,
+        at: c.at,
+    }
+}
+
+// bra ket
+pub struct Between {
+    pub ok: bool,
+    pub bra: u64,
+    pub ket: u64,
+    pub at: usize,
+}
+
+pub fn read_between(s: &[u8], at: usize) -> Between
+    ensures { λ r. ⌜ Reads (fields (word ∷ word ∷ [])) (now (s .entry)) at (r .ok) (r .bra, (r .ket, tt)) (r .at) ⌝ }
+{
+    let a = text::word_field(s, at);
+    let b = text::word_field(s, a.at);
+    Between {
+        ok: a.ok & b.ok,
+        bra: a.value,
+        ket: b.value,
+        at: b.at,
     }
 }

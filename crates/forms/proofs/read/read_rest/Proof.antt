@@ -1,10 +1,7 @@
-use borrow.Author.Needs.{needs}
-use native.Mathlib.Omega.{arith}
+use Rattle.forms.proofs.Kit.{needs}
 use Rattle.forms.proofs.Reading.{rest-none, rest-there}
 use Rattle.forms.proofs.read.read_rest.Statement.{statement}
 use Rattle.forms.proofs.read.read_rest.Tie as tie
-use Rattle.forms.proofs.read.read_rest.Reads as reads
-use Rattle.forms.proofs.read.read_rest.Lts as lts
 
 returns : tie.Need-returns
 returns c = rest-none _ _ (c .if1 .taken)

@@ -1,15 +1,7 @@
-use borrow.Author.Needs.{needs}
-use native.Mathlib.Omega.{arith}
-use Rattle.forms.proofs.Kit.{adds-both}
+use Rattle.forms.proofs.Kit.{adds-both, needs}
 use Rattle.forms.specs.Answers.{okText}
 use Rattle.forms.proofs.say.ok_text.Statement.{statement}
 use Rattle.forms.proofs.say.ok_text.Tie as tie
-use Rattle.forms.proofs.say.ok_text.Reads as reads
-use Rattle.forms.proofs.say.ok_text.Lts as lts
-use Rattle.forms.proofs.say.end.Reads as end-reads
-use Rattle.forms.proofs.say.letters.Reads as letters-reads
-use Rattle.forms.proofs.say.number.Reads as number-reads
-use Rattle.forms.proofs.say.text_part.Reads as text-part-reads
 
 returns : tie.Need-returns
 unfolding okText

@@ -1,13 +1,7 @@
-use borrow.Author.Needs.{needs}
-use native.Mathlib.Omega.{arith}
-use Rattle.forms.proofs.Kit.{adds-both, adds-empty}
+use Rattle.forms.proofs.Kit.{adds-both, adds-empty, needs}
 use Rattle.forms.proofs.Texts.{no-text, some-text}
 use Rattle.forms.proofs.say.text_field.Statement.{statement}
 use Rattle.forms.proofs.say.text_field.Tie as tie
-use Rattle.forms.proofs.say.text_field.Reads as reads
-use Rattle.forms.proofs.say.text_field.Lts as lts
-use Rattle.forms.proofs.say.letters.Reads as letters-reads
-use Rattle.forms.proofs.say.mark.Reads as mark-reads
 
 returns : tie.Need-returns
 returns c = rw (no-text _ (c .if1 .taken)) adds-empty

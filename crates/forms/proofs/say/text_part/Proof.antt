@@ -1,12 +1,7 @@
-use borrow.Author.Needs.{needs}
-use native.Mathlib.Omega.{arith}
-use Rattle.forms.proofs.Kit.{_-_, _≡_}
+use Rattle.forms.proofs.Kit.{_-_, _≡_, arith, needs}
 use lib.Seq.{take-all}
 use Rattle.forms.proofs.say.text_part.Statement.{statement}
 use Rattle.forms.proofs.say.text_part.Tie as tie
-use Rattle.forms.proofs.say.text_part.Reads as reads
-use Rattle.forms.proofs.say.text_part.Lts as lts
-use Rattle.forms.proofs.say.text_field.Reads as text-field-reads
 
 returns : tie.Need-returns
 returns c = let a = c .before .before .before .before .before .before .before .before .args in

@@ -1,11 +1,6 @@
-use borrow.Author.Needs.{needs}
-use native.Mathlib.Omega.{arith}
+use Rattle.forms.proofs.Kit.{needs}
 use Rattle.forms.proofs.say.written.Statement.{statement}
 use Rattle.forms.proofs.say.written.Tie as tie
-use Rattle.forms.proofs.say.written.Reads as reads
-use Rattle.forms.proofs.say.written.Lts as lts
-use Rattle.forms.proofs.say.ok_text.Reads as ok-text-reads
-use Rattle.forms.proofs.say.refuse.Reads as refuse-reads
 
 returns : tie.Need-returns
 returns c = rw (c .before .before .before .before .before .a .given .1) (c .before .before .ok-text .ensures)
