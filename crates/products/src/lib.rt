@@ -53,7 +53,7 @@ pub extern "C" fn mul_op_state_phase_u64(lx: u64, lz: u64, r: u64) -> u64
 }
 
 // To n is added the number of qubits of a word at which the Paulis differ and neither is I.
-fn add_clashes(n: u64, lx: u64, lz: u64, rx: u64, rz: u64) -> u64
+pub fn add_clashes(n: u64, lx: u64, lz: u64, rx: u64, rz: u64) -> u64
     ensures { λ r. ⌜ r ≡ (n + clashes (word 64 lx lz) (word 64 rx rz)) % 2 ^ 64 ⌝ }
 {
     wrapping_add_u64(n, count((lx & rz) ^ (lz & rx)))
@@ -61,14 +61,14 @@ fn add_clashes(n: u64, lx: u64, lz: u64, rx: u64, rz: u64) -> u64
 
 // In f the bits of the qubits whose product brings 3 are turned over. Clashes bring 1 or 3, so twice the ones of f is what they bring beside
 // their number, mod 4.
-fn turn_threes(f: u64, lx: u64, lz: u64, rx: u64, rz: u64) -> u64
+pub fn turn_threes(f: u64, lx: u64, lz: u64, rx: u64, rz: u64) -> u64
     ensures { λ r. ⌜ (2 * ones r + clashes (word 64 lx lz) (word 64 rx rz)) % 4 ≡ (2 * ones f + phases (word 64 lx lz) (word 64 rx rz)) % 4 ⌝ }
 {
     f ^ (((lx ^ rx) ^ (lz ^ rz) ^ (lx & rz)) & ((lx & rz) ^ (lz & rx)))
 }
 
 // The factor, when n clashes are counted and f holds the turned bits.
-fn factor_from(n: u64, f: u64) -> Factor
+pub fn factor_from(n: u64, f: u64) -> Factor
     ensures { λ r. ⌜ (r .phase .0 ≡ (n + 2 * ones f) % 4) × (r .clashes ≡ n % 65536) ⌝ }
 {
     let e = (n % 4 + 2 * count(f)) % 4;

@@ -1,6 +1,8 @@
 pub mod Lists
 pub mod Log
 pub mod Run
+pub mod Places
+pub mod Pieces
 pub mod Walk
 pub mod Forms
 pub mod Bounds

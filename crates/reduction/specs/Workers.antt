@@ -1,6 +1,6 @@
 -- The rule as a loop does it: before each product it looks whether the entry fits, and a run that is full goes no further. This is no definition
 -- to be believed: `stops-is-capped` of proofs/Stop.antt proves that it is `capped`. The loops of the reducer are proved against it. Assumes nothing.
-use Prim.Native.Nat.{ℕ}
+use Prim.Native.Nat.{ℕ, suc, _<_}
 use mathlib.Core.Bool.{Bool, cond, not, _&&_}
 use mathlib.Core.Option.{Option, none, some}
 use mathlib.Core.List.{List, [], _∷_, _++_}
@@ -42,3 +42,14 @@ module _ {R : Type 0} (bit : R → ℕ → Bool) (mul : R → R → R) (capacity
 
   unfoldable pub columnC : List ℕ → List ℕ → ℕ → Run R → Reduced R
   columnC listed extra c s = columnByC listed extra c (first bit (s .rows) c (drop (s .t) listed)) s
+
+-- ---- lists of numbers, as loops see them
+
+-- the numbers of a list are below m
+abbrev pub Below : ℕ → List ℕ → Type 0
+Below m l = (i : ℕ) → i < length l → getD l i 0 < m
+
+-- the first place of the list whose number passes the test; the list's length if there is none
+unfoldable pub firstPlace : (ℕ → Bool) → List ℕ → ℕ
+firstPlace f [] = 0
+firstPlace f (k ∷ ks) = cond (f k) 0 (suc (firstPlace f ks))

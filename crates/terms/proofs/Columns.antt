@@ -3,20 +3,18 @@
 use mathlib.Core.Path.{_≡_, refl, sym, ap, ap₂, _∙_}
 use mathlib.Core.Bool.{Bool, true, false, cond, _&&_}
 use mathlib.Core.List.{List}
-use Prim.Native.Nat.{ℕ, suc, _+_, _-_, _*_, _/_, _%_, _^_, _≤_, _<_}
+use Prim.Native.Nat.{ℕ, _+_, _-_, _*_, _/_, _%_, _^_, _≤_, _<_}
 use native.Mathlib.Nat.{mul-le-mul-right}
 use native.Mathlib.Omega.{arith}
-use native.Mathlib.Numerals.{add-one}
 use borrow.Author.Tests.{le-leb, lt-leb, lt-ltb, le-ltb}
 use lib.Dec.{leb, ltb}
-use lib.ListN.{length, getD, drop, length-take, drop-of-length-le}
-use lib.Seq.{drop-cons}
+use lib.ListN.{length, getD, drop, length-take}
 use Rattle.encoding.specs.Limits.{maxQubits, maxRows, maxWords, wordsOf}
 use Rattle.encoding.specs.Words.{odd, bitAt}
 use Rattle.encoding.specs.Set.{row}
 use Rattle.encoding.proofs.Parts.{getD-part}
 use Rattle.encoding.proofs.Qubits.{no-bit}
-use Rattle.terms.specs.Leaves.{columnOf, bitIn, firstPlace}
+use Rattle.terms.specs.Leaves.{columnOf, bitIn}
 
 -- ---- bit q of row k
 
@@ -65,18 +63,3 @@ module _ (n : ℕ) (xs zs : List ℕ) (k c : ℕ) where
         q ∙ ap (λ v. bitAt (row v k zs) ((c - n) / 64) ((c - n) % 64)) e
         ∙ sym (ap (λ b. cond b (bitAt (row (wordsOf n) k xs) (c / 64) (c % 64)) (bitAt (row (wordsOf n) k zs) ((c - n) / 64) ((c - n) % 64))) (le-ltb c n l))
         ∙ bit-within h g
-
--- ---- the first place that passes a test
-
-module _ (f : ℕ → Bool) (l : List ℕ) (i : ℕ) where
-  pub place-here : i < length l → f (getD l i 0) ≡ true → firstPlace f (drop i l) ≡ 0
-  unfolding firstPlace
-  place-here h e = rw (drop-cons l i 0 h, e)
-
-  pub place-next : i < length l → f (getD l i 0) ≡ false → firstPlace f (drop i l) ≡ suc (firstPlace f (drop (i + 1) l))
-  unfolding firstPlace
-  place-next h e = rw (add-one i, drop-cons l i 0 h, e)
-
-  pub place-end : length l ≤ i → firstPlace f (drop i l) ≡ 0
-  unfolding firstPlace
-  place-end h = ap (firstPlace f) (drop-of-length-le l h)

@@ -1,16 +1,16 @@
 -- The leaves over a row set: a column is `bitRow`, the first place is that of `first`, a product in place is `mulAt`. The words of a sound set are packed from its
 -- rows, so that one row written is one row changed (`Held`). Assumes nothing.
 use mathlib.Core.Path.{_≡_, refl, sym, ap, ap₂, _∙_, subst, fun-ext}
-use mathlib.Core.Bool.{Bool, true, false, cond}
+use mathlib.Core.Bool.{cond}
 use mathlib.Core.Option.{none, some}
-use mathlib.Core.List.{List, [], _∷_}
-use Prim.Native.Nat.{ℕ, suc, _+_, _-_, _*_, _/_, _%_, _≤_, _<_}
+use mathlib.Core.List.{List}
+use Prim.Native.Nat.{ℕ, _+_, _-_, _*_, _/_, _%_, _≤_, _<_}
 use native.Mathlib.Decide.{decLt, ℕ-discrete}
 use native.Mathlib.Omega.{arith}
 use borrow.Author.Tests.{eqb-true, eqb-false, lt-ltb, le-ltb}
 use lib.Dec.{eqb}
-use lib.ListN.{length, getD, take, drop, length-drop}
-use lib.Seq.{getD-take, getD-drop}
+use lib.ListN.{length, getD, take, drop}
+use lib.Seq.{getD-take}
 use Rattle.pauli.specs.Pauli.{Pauli, _·_, mul, phases, ofBits, hasX, hasZ}
 use Rattle.pauli.specs.declared.PauliMatrix.the-variants.{I}
 use Rattle.pauli.specs.Row.{Row, padMul, mulRow, bitOf, bitRow}
@@ -29,6 +29,7 @@ use Rattle.products.specs.declared.Factor.{Factor}
 use Rattle.pauli.specs.Rows.{clashesOf}
 use Rattle.products.proofs.PartLaws.{row-other}
 use Rattle.reduction.specs.Rule.{mulAt, first}
+use Rattle.reduction.proofs.Places.{from-some, from-none}
 use Rattle.pauli.proofs.Bools.{cond-ind}
 use Rattle.terms.specs.Leaves.{columnOf, bitIn, firstPlace, mulIn, clashesIn}
 use Rattle.terms.specs.Work.{Keeps, Below}
@@ -67,49 +68,17 @@ bit-view {n} {M} s k c hk hc = sym (bit-within n (M .xs) (M .zs) k c (s .few-qub
 
 -- ---- the first place
 
--- a place within the list is that of the first row found; none is found where it is the end
-module _ {R : Type 0} (bit : R → ℕ → Bool) (σ : ℕ → R) (c : ℕ) (f : ℕ → Bool) where
-  abbrev Tells : List ℕ → Type 0
-  Tells l = (i : ℕ) → i < length l → f (getD l i 0) ≡ bit (σ (getD l i 0)) c
-
-  found : (k : ℕ) (ks : List ℕ) (b : Bool) → f k ≡ b → bit (σ k) c ≡ b → cond b 0 (suc (firstPlace f ks)) < suc (length ks)
-      → (firstPlace f ks < length ks → first bit σ c ks ≡ some (getD ks (firstPlace f ks) 0)) → cond b (some k) (first bit σ c ks) ≡ some (getD (k ∷ ks) (cond b 0 (suc (firstPlace f ks))) 0)
-  found k ks true e d g ih = refl
-  found k ks false e d g ih = ih (omega arith)
-
-  pub place-some : (l : List ℕ) → Tells l → firstPlace f l < length l → first bit σ c l ≡ some (getD l (firstPlace f l) 0)
-  unfolding firstPlace first
-  place-some [] h g = absurd (omega arith)
-  place-some (k ∷ ks) h g =
-      ap (λ b. cond b (some k) (first bit σ c ks)) (sym (h 0 (omega arith)))
-      ∙ found k ks (f k) refl (sym (h 0 (omega arith))) g (place-some ks (λ i l. h (suc i) (omega arith)))
-
-  missed : (k : ℕ) (ks : List ℕ) (b : Bool) → suc (length ks) ≤ cond b 0 (suc (firstPlace f ks)) → (length ks ≤ firstPlace f ks → first bit σ c ks ≡ none) → cond b (some k) (first bit σ c ks) ≡ none
-  missed k ks true g ih = absurd (omega arith)
-  missed k ks false g ih = ih (omega arith)
-
-  pub place-none : (l : List ℕ) → Tells l → length l ≤ firstPlace f l → first bit σ c l ≡ none
-  unfolding firstPlace first
-  place-none [] h g = refl
-  place-none (k ∷ ks) h g =
-      ap (λ b. cond b (some k) (first bit σ c ks)) (sym (h 0 (omega arith))) ∙ missed k ks (f k) g (place-none ks (λ i l. h (suc i) (omega arith)))
-
 -- the place that the search gives, from t on
 module _ {n : ℕ} {M : Mem} (s : Sound n M) (l : List ℕ) (t c r : ℕ) (ht : t ≤ length l) (hl : Below (count M) l) (hc : c < n + n)
     (e : r ≡ t + firstPlace (λ k. bitIn n (M .xs) (M .zs) k c) (drop t l)) where
-  tells : (i : ℕ) → i < length (drop t l) → bitIn n (M .xs) (M .zs) (getD (drop t l) i 0) c ≡ bitRow n (rowsOf n M (getD (drop t l) i 0)) c
-  tells i h =
-      let at : getD (drop t l) i 0 ≡ getD l (t + i) 0 = getD-drop t l i 0 in
-      bit-view s (getD (drop t l) i 0) c (subst (λ k. k < count M) (sym at) (hl (t + i) (omega (arith, length-drop t l)))) hc
+  tells : (i : ℕ) → i < length l → bitIn n (M .xs) (M .zs) (getD l i 0) c ≡ bitRow n (rowsOf n M (getD l i 0)) c
+  tells i h = bit-view s (getD l i 0) c (hl i h) hc
 
   pub find-some : r < length l → first (bitRow n) (rowsOf n M) c (drop t l) ≡ some (getD l r 0)
-  find-some h =
-      let f : ℕ → Bool = λ k. bitIn n (M .xs) (M .zs) k c in
-      place-some (bitRow n) (rowsOf n M) c f (drop t l) tells (omega (arith, length-drop t l))
-      ∙ ap (λ k. some k) (getD-drop t l (firstPlace f (drop t l)) 0 ∙ ap (λ j. getD l j 0) (sym e))
+  find-some = from-some (bitRow n) (rowsOf n M) c (λ k. bitIn n (M .xs) (M .zs) k c) l t r ht tells e
 
   pub find-none : length l ≤ r → first (bitRow n) (rowsOf n M) c (drop t l) ≡ none
-  find-none h = place-none (bitRow n) (rowsOf n M) c (λ k. bitIn n (M .xs) (M .zs) k c) (drop t l) tells (omega (arith, length-drop t l))
+  find-none = from-none (bitRow n) (rowsOf n M) c (λ k. bitIn n (M .xs) (M .zs) k c) l t r ht tells e
 
   pub find-from : t ≤ r
   find-from = omega arith

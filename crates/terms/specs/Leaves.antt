@@ -2,8 +2,8 @@
 -- input; of a row set, proofs/RowView.antt says that they are `bitRow`, `first` and `mulAt`. Assumes nothing.
 use mathlib.Core.Path.{_≡_}
 use mathlib.Core.Bool.{Bool, cond, _&&_}
-use mathlib.Core.List.{List, [], _∷_, _++_}
-use Prim.Native.Nat.{ℕ, suc, _+_, _-_, _*_, _/_, _%_, _≤_, _<_}
+use mathlib.Core.List.{List, _++_}
+use Prim.Native.Nat.{ℕ, _+_, _-_, _*_, _/_, _%_, _≤_, _<_}
 use lib.Dec.{eqb, leb, ltb}
 use lib.ListN.{length, take, drop}
 use Rattle.pauli.specs.Pauli.{hasX, hasZ, mul, phases, clashes}
@@ -12,6 +12,7 @@ use Rattle.encoding.specs.Words.{bitAt, unpack, pack}
 use Rattle.encoding.specs.Set.{row, Mem, memOf, count, exponentAt, withExponent}
 use Rattle.encoding.specs.Refusals.{fault, outTests}
 use Rattle.products.specs.Leaves.{Multiplied}
+unfoldable pub use Rattle.reduction.specs.Workers.{firstPlace}
 use Rattle.products.specs.declared.Factor.{Factor}
 
 -- column c of a row's two parts: X of qubit c, from n on Z of qubit c - n
@@ -21,11 +22,6 @@ columnOf n xs zs c = cond (ltb c n) (bitAt xs (c / 64) (c % 64)) (bitAt zs ((c -
 -- column c of row k; past the limits no bit is set
 unfoldable pub bitIn : ℕ → List ℕ → List ℕ → ℕ → ℕ → Bool
 bitIn n xs zs k c = (leb n maxQubits && ltb k maxRows) && columnOf n (row (wordsOf n) k xs) (row (wordsOf n) k zs) c
-
--- the first place of the list whose number passes the test; the list's length if there is none
-unfoldable pub firstPlace : (ℕ → Bool) → List ℕ → ℕ
-firstPlace f [] = 0
-firstPlace f (k ∷ ks) = cond (f k) 0 (suc (firstPlace f ks))
 
 -- what refusals 1 to 3 ask of a set, and both rows are in it
 abbrev pub bothIn : ℕ → Mem → ℕ → ℕ → Bool

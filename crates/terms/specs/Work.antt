@@ -10,6 +10,7 @@ use Rattle.encoding.specs.Set.{Mem, count, rowsOf, Sound}
 use Rattle.reduction.specs.Rule.{Run}
 use Rattle.reduction.specs.Log.{pairs}
 use Rattle.reduction.specs.Capacity.{Reduced, done, full}
+pub use Rattle.reduction.specs.Workers.{Below}
 use Rattle.terms.specs.declared.reduce.Progress.{Progress}
 
 -- the memory is a row set still, and as long as it was
@@ -19,10 +20,6 @@ pub record Keeps (n : ℕ) (M₀ M : Mem) : Type 0 where
   pub z-len : length (M .zs) ≡ length (M₀ .zs)
   pub e-len : length (M .es) ≡ length (M₀ .es)
   pub many : count M ≡ count M₀
-
--- the numbers of a list are below m
-abbrev pub Below : ℕ → List ℕ → Type 0
-Below m l = (i : ℕ) → i < length l → getD l i 0 < m
 
 -- no number is marked in the table
 abbrev pub Blank : List ℕ → Type 0

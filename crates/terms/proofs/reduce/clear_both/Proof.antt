@@ -1,6 +1,6 @@
 -- Listed rows and then extra rows, each through `clear`: two runs one after the other are the run over both lists (`through-append`). If the first
 -- fills the log, the second is not begun, and a full run stays as it is (`does-full`).
-use Rattle.terms.proofs.Pieces.{through-append}
+use Rattle.reduction.proofs.Pieces.{through-append}
 use Rattle.terms.proofs.Steps.{does-as, does-then, does-full, ready-next}
 use Rattle.terms.specs.Work.{runOf}
 use Rattle.reduction.specs.Workers.{through, turnC}

@@ -1,6 +1,6 @@
 -- i and the first place from i on are together t and the first place from t on: at a row with the bit the first place from i is 0 (`place-here`), at
 -- any other it is one more than from i + 1 (`place-next`), and past the end it is 0 (`place-end`).
-use Rattle.terms.proofs.Columns.{place-here, place-next, place-end}
+use Rattle.reduction.proofs.Places.{place-here, place-next, place-end}
 use Rattle.terms.specs.Leaves.{bitIn, firstPlace}
 use borrow.Author.Needs.{needs}
 use native.Mathlib.Omega.{arith}

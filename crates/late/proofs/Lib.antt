@@ -1,0 +1,9 @@
+pub mod From
+pub mod View
+pub mod Runs
+pub mod ColumnBits
+pub mod Turning
+pub mod Clearing
+pub mod Leading
+pub mod Columning
+pub mod Scratch
