@@ -3,32 +3,43 @@
 //! compare fixed ORACLE CASES ANSWERS          write the fixed list
 //! compare cases SEED COUNT                    print the lines of a run
 //! compare model                               answer the lines on standard input by the model
+//! compare files SEED COUNT VERDICT...         compare on log files, print the table
+//! compare file SEED NUMBER                    write that file of a run
+//! compare fuzz SECONDS SEED VERDICT...        run `verdict` on files changed at random
+//! compare verdict                             be the program `verdict`, by the model
+//! compare page PAGE                           hold the model against the worked file of docs/PWL.md
 //!
-//! ORACLE is the oracle's program, or `-` for none; CALLS the program `calls` and its arguments.
+//! ORACLE is the oracle's program, or `-` for none; CALLS and VERDICT the programs `calls` and
+//! `verdict` with their arguments.
 
 mod cases;
 mod compare;
 mod engines;
 mod faults;
+mod files;
 mod fixed;
 mod forms;
+mod fuzz;
 mod gates;
 mod limits;
 mod line;
 mod malformed;
 mod model;
 mod phases;
+mod pwl;
 mod random;
 mod reduction;
 mod rows;
 mod small;
+mod spawn;
 mod states;
 mod texts;
 mod undoing;
 mod valid;
+mod verdicts;
 mod whole;
 
-use std::io::{BufRead, Write};
+use std::io::{BufRead, Read, Write};
 use std::process::exit;
 
 use compare::{Programs, Run};
@@ -42,6 +53,15 @@ fn main() {
         ["fixed", oracle, cases, answers] => fixed::write(program(&[oracle]), cases, answers),
         ["cases", seed, count] => print_cases(number(seed), number(count)),
         ["model"] => print_answers(),
+        ["files", seed, count, ref verdict @ ..] if !verdict.is_empty() => {
+            verdicts::compare(number(seed), number(count), &program(verdict).unwrap_or_else(|| usage()))
+        }
+        ["fuzz", seconds, seed, ref verdict @ ..] if !verdict.is_empty() => {
+            fuzz::run(number(seconds), number(seed), &program(verdict).unwrap_or_else(|| usage()))
+        }
+        ["file", seed, at] => write_file(number(seed), number(at)),
+        ["verdict"] => print_verdict(),
+        ["page", page] => hold_to_page(page),
         _ => usage(),
     };
     exit((differences > 0) as i32);
@@ -49,7 +69,8 @@ fn main() {
 
 fn usage() -> ! {
     eprintln!(
-        "usage: compare run SEED COUNT ORACLE [CALLS...] | lines ORACLE [CALLS...] | fixed ORACLE CASES ANSWERS | cases SEED COUNT | model"
+        "usage: compare run SEED COUNT ORACLE [CALLS...] | lines ORACLE [CALLS...] | fixed ORACLE CASES ANSWERS | cases SEED COUNT | model \
+         | files SEED COUNT VERDICT... | file SEED NUMBER | fuzz SECONDS SEED VERDICT... | verdict | page PAGE"
     );
     exit(2)
 }
@@ -104,4 +125,30 @@ fn print_answers() -> usize {
         }
     });
     0
+}
+
+/// The files of a run have numbers from 0 on.
+fn write_file(seed: u64, at: u64) -> usize {
+    let mut number = 0;
+    files::all(seed, at + 1, &mut |file| {
+        if number == at {
+            std::io::stdout().write_all(&file.bytes).expect("standard output");
+        }
+        number += 1;
+    });
+    0
+}
+
+fn print_verdict() -> usize {
+    let mut bytes = vec![];
+    std::io::stdin().read_to_end(&mut bytes).expect("standard input");
+    println!("{}", pwl::line_of(&bytes));
+    0
+}
+
+fn hold_to_page(page: &str) -> usize {
+    let text = std::fs::read_to_string(page).unwrap_or_else(|e| panic!("{page}: {e}"));
+    let agrees = files::agrees_with_page(&text);
+    println!("the worked file of {page}: the model {}", if agrees { "writes and reads it" } else { "writes another" });
+    !agrees as usize
 }

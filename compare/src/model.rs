@@ -11,10 +11,14 @@ use crate::texts;
 pub fn answer(line: &str) -> String {
     match parsed(line) {
         None => "bad line".to_string(),
-        Some(case) => match refusal(&case) {
-            Some(number) => format!("refuse {number}"),
-            None => worked(&case),
-        },
+        Some(case) => answer_to(&case),
+    }
+}
+
+pub fn answer_to(case: &Case) -> String {
+    match refusal(case) {
+        Some(number) => format!("refuse {number}"),
+        None => worked(case),
     }
 }
 
