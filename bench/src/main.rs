@@ -1,4 +1,4 @@
-//! Prints a table of times: the calls of this repository, from the archive of the crate `speed`, and the Rust's, on the
+//! Prints a table of times: the calls of this repository, from the archive of the crate `bawersun`, and the Rust's, on the
 //! same random rows, in one process, and the limits in C. Before a call is timed
 //! all sides do it once, and what they leave is compared. With --matrix-edges nothing is timed: the matrix is compared at
 //! the row counts that are the edges of its blocks. With --limits: both limits at once, with the stack that each call takes

@@ -1,10 +1,10 @@
-//! The functions that the crate `speed` exports. A slice is passed as a pointer and a length; the number that comes
+//! The functions that the crate `bawersun` exports. A slice is passed as a pointer and a length; the number that comes
 //! back is 0 for done, else the refusal's.
 
 use crate::rows::{Operator, Set, States, WholeOperator};
 
 extern "C" {
-    fn speed_compatibility_matrix(
+    fn bawersun_compatibility_matrix(
         n: usize,
         m: usize,
         x: *const u64,
@@ -17,7 +17,7 @@ extern "C" {
         out_len: usize,
     ) -> u8;
 
-    fn speed_cmpnts_mul_pairwise(
+    fn bawersun_cmpnts_mul_pairwise(
         n: usize,
         m: usize,
         lx: *const u64,
@@ -42,7 +42,7 @@ extern "C" {
         clashes_len: usize,
     ) -> u8;
 
-    fn speed_imul(
+    fn bawersun_imul(
         n: usize,
         m: usize,
         x: *mut u64,
@@ -56,7 +56,7 @@ extern "C" {
         clashes: *mut u16,
     ) -> u8;
 
-    fn speed_conj_h(
+    fn bawersun_conj_h(
         n: usize,
         m: usize,
         x: *mut u64,
@@ -68,7 +68,7 @@ extern "C" {
         q: usize,
     ) -> u8;
 
-    fn speed_conj_s(
+    fn bawersun_conj_s(
         n: usize,
         m: usize,
         x: *mut u64,
@@ -80,7 +80,7 @@ extern "C" {
         q: usize,
     ) -> u8;
 
-    fn speed_conj_cx(
+    fn bawersun_conj_cx(
         n: usize,
         m: usize,
         x: *mut u64,
@@ -93,7 +93,7 @@ extern "C" {
         target: usize,
     ) -> u8;
 
-    fn speed_canonicalize_all(
+    fn bawersun_canonicalize_all(
         n: usize,
         m: usize,
         x: *mut u64,
@@ -108,7 +108,7 @@ extern "C" {
         t: *mut usize,
     ) -> u8;
 
-    fn speed_check(
+    fn bawersun_check(
         n: usize,
         m: usize,
         x: *mut u64,
@@ -134,7 +134,7 @@ extern "C" {
         place: *mut usize,
     ) -> u8;
 
-    fn speed_mat_elem_cmpnts_from_presorted(
+    fn bawersun_mat_elem_cmpnts_from_presorted(
         n: usize,
         x: *const u64,
         x_len: usize,
@@ -150,7 +150,7 @@ extern "C" {
         imag: *mut f64,
     ) -> u8;
 
-    fn speed_mat_elem_from_presorted(
+    fn bawersun_mat_elem_from_presorted(
         n: usize,
         x: *const u64,
         x_len: usize,
@@ -179,7 +179,7 @@ extern "C" {
 
 pub fn compatibility_matrix(set: &Set, out: &mut [u64]) -> u8 {
     unsafe {
-        speed_compatibility_matrix(
+        bawersun_compatibility_matrix(
             set.n,
             set.m,
             set.x.as_ptr(),
@@ -196,7 +196,7 @@ pub fn compatibility_matrix(set: &Set, out: &mut [u64]) -> u8 {
 
 pub fn cmpnts_mul_pairwise(left: &Set, right: &Set, out: &mut Set, clashes: &mut [u16]) -> u8 {
     unsafe {
-        speed_cmpnts_mul_pairwise(
+        bawersun_cmpnts_mul_pairwise(
             left.n,
             left.m,
             left.x.as_ptr(),
@@ -226,7 +226,7 @@ pub fn cmpnts_mul_pairwise(left: &Set, right: &Set, out: &mut Set, clashes: &mut
 pub fn imul(set: &mut Set, a: usize, b: usize) -> u8 {
     let mut clashes = 0;
     unsafe {
-        speed_imul(
+        bawersun_imul(
             set.n,
             set.m,
             set.x.as_mut_ptr(),
@@ -245,7 +245,7 @@ pub fn imul(set: &mut Set, a: usize, b: usize) -> u8 {
 /// H of a qubit.
 pub fn conj_h(set: &mut Set, q: usize) -> u8 {
     unsafe {
-        speed_conj_h(
+        bawersun_conj_h(
             set.n,
             set.m,
             set.x.as_mut_ptr(),
@@ -262,7 +262,7 @@ pub fn conj_h(set: &mut Set, q: usize) -> u8 {
 /// S of a qubit.
 pub fn conj_s(set: &mut Set, q: usize) -> u8 {
     unsafe {
-        speed_conj_s(
+        bawersun_conj_s(
             set.n,
             set.m,
             set.x.as_mut_ptr(),
@@ -279,7 +279,7 @@ pub fn conj_s(set: &mut Set, q: usize) -> u8 {
 /// Controlled-X of a control and a target.
 pub fn conj_cx(set: &mut Set, control: usize, target: usize) -> u8 {
     unsafe {
-        speed_conj_cx(
+        bawersun_conj_cx(
             set.n,
             set.m,
             set.x.as_mut_ptr(),
@@ -298,7 +298,7 @@ pub fn conj_cx(set: &mut Set, control: usize, target: usize) -> u8 {
 pub fn canonicalize_all(set: &mut Set, log: &mut [u16]) -> (u8, usize, usize) {
     let (mut entries, mut t) = (0, 0);
     let code = unsafe {
-        speed_canonicalize_all(
+        bawersun_canonicalize_all(
             set.n,
             set.m,
             set.x.as_mut_ptr(),
@@ -335,7 +335,7 @@ pub struct Claim<'a> {
 pub fn check(set: &mut Set, claim: &Claim) -> (u8, usize) {
     let mut place = 0;
     let code = unsafe {
-        speed_check(
+        bawersun_check(
             set.n,
             set.m,
             set.x.as_mut_ptr(),
@@ -368,7 +368,7 @@ pub fn check(set: &mut Set, claim: &Claim) -> (u8, usize) {
 pub fn mat_elem(op: &Operator, bra: u64, ket: u64) -> (u8, f64, f64) {
     let (mut re, mut im) = (0.0, 0.0);
     let code = unsafe {
-        speed_mat_elem_cmpnts_from_presorted(
+        bawersun_mat_elem_cmpnts_from_presorted(
             op.n,
             op.x.as_ptr(),
             op.x.len(),
@@ -391,7 +391,7 @@ pub fn mat_elem(op: &Operator, bra: u64, ket: u64) -> (u8, f64, f64) {
 pub fn mat_elem_of_states(op: &WholeOperator, bra: &States, ket: &States) -> (u8, i64, i64) {
     let (mut re, mut im) = (0, 0);
     let code = unsafe {
-        speed_mat_elem_from_presorted(
+        bawersun_mat_elem_from_presorted(
             op.n,
             op.x.as_ptr(),
             op.x.len(),

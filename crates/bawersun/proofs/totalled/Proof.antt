@@ -3,8 +3,8 @@ use mathlib.Core.Path.{refl}
 use mir.Facts.{toZ-ofZ}
 use mir.Syntax.{w64}
 use mir.Val.{SFits}
-use Rattle.speed.proofs.totalled.Statement.{statement}
-use Rattle.speed.proofs.totalled.Tie as tie
+use Rattle.bawersun.proofs.totalled.Statement.{statement}
+use Rattle.bawersun.proofs.totalled.Tie as tie
 
 returns : tie.Need-returns
 returns c =

@@ -2,8 +2,8 @@ use borrow.Author.Needs.{needs, sfits-of}
 use mir.Facts.{toZ-ofZ}
 use mir.Syntax.{w64}
 use mir.Val.{SFits}
-use Rattle.speed.proofs.speed_mat_elem_from_presorted.Statement.{statement}
-use Rattle.speed.proofs.speed_mat_elem_from_presorted.Tie as tie
+use Rattle.bawersun.proofs.bawersun_mat_elem_from_presorted.Statement.{statement}
+use Rattle.bawersun.proofs.bawersun_mat_elem_from_presorted.Tie as tie
 
 returns : tie.Need-returns
 returns c =
@@ -19,5 +19,5 @@ returns c =
     rw (toZ-ofZ u, toZ-ofZ v)
     (record { given = m .mat-elem-from-presorted .result; call = m .mat-elem-from-presorted .ensures; seen = record { number = e .0; real = e .1; imag = e .2 } })
 
-pub speed-mat-elem-from-presorted-spec : {M : Type 1} → statement M
-speed-mat-elem-from-presorted-spec = tie.close (tie.spec (λ c κs. search needs) (λ c κs. search needs) returns)
+pub bawersun-mat-elem-from-presorted-spec : {M : Type 1} → statement M
+bawersun-mat-elem-from-presorted-spec = tie.close (tie.spec (λ c κs. search needs) (λ c κs. search needs) returns)
