@@ -39,6 +39,11 @@ type Sink<'a> = &'a mut dyn FnMut(File);
 
 pub fn all(seed: u64, count: u64, sink: Sink) {
     fixed(sink);
+    rounds(seed, count, sink);
+}
+
+/// Whole rounds, until they made so many files.
+pub fn rounds(seed: u64, count: u64, sink: Sink) {
     let mut made = 0;
     let mut number = 0;
     while made < count {

@@ -4,6 +4,7 @@
 //! compare cases SEED COUNT                    print the lines of a run
 //! compare model                               answer the lines on standard input by the model
 //! compare files SEED COUNT VERDICT...         compare on log files, print the table
+//! compare few VERDICT...                      compare on the first files that hold runs
 //! compare file SEED NUMBER                    write that file of a run
 //! compare fuzz SECONDS SEED VERDICT...        run `verdict` on files changed at random
 //! compare verdict                             be the program `verdict`, by the model
@@ -56,6 +57,9 @@ fn main() {
         ["files", seed, count, ref verdict @ ..] if !verdict.is_empty() => {
             verdicts::compare(number(seed), number(count), &program(verdict).unwrap_or_else(|| usage()))
         }
+        ["few", ref verdict @ ..] if !verdict.is_empty() => {
+            verdicts::compare_few(&program(verdict).unwrap_or_else(|| usage()))
+        }
         ["fuzz", seconds, seed, ref verdict @ ..] if !verdict.is_empty() => {
             fuzz::run(number(seconds), number(seed), &program(verdict).unwrap_or_else(|| usage()))
         }
@@ -70,7 +74,7 @@ fn main() {
 fn usage() -> ! {
     eprintln!(
         "usage: compare run SEED COUNT ORACLE [CALLS...] | lines ORACLE [CALLS...] | fixed ORACLE CASES ANSWERS | cases SEED COUNT | model \
-         | files SEED COUNT VERDICT... | file SEED NUMBER | fuzz SECONDS SEED VERDICT... | verdict | page PAGE"
+         | files SEED COUNT VERDICT... | few VERDICT... | file SEED NUMBER | fuzz SECONDS SEED VERDICT... | verdict | page PAGE"
     );
     exit(2)
 }

@@ -135,6 +135,15 @@ pub fn compare(seed: u64, count: u64, program: &[String]) -> usize {
     tally.report()
 }
 
+/// Runs the program over the first rounds alone: enough for a program that is wrong on most files.
+pub fn compare_few(program: &[String]) -> usize {
+    let mut tally = Tally::default();
+    let mut files = vec![];
+    files::rounds(1, 100, &mut |file| files.push(file));
+    work_off(program, &mut tally, 0, files);
+    tally.report()
+}
+
 /// Runs the program on some files, two at once; how many they were.
 fn work_off(program: &[String], tally: &mut Tally, from: usize, files: Vec<File>) -> usize {
     let next = AtomicUsize::new(0);
