@@ -6,7 +6,7 @@ use std::fs::File;
 use std::io::{Read, Write};
 use std::os::fd::{AsRawFd, FromRawFd, OwnedFd};
 use std::process::{Child, Command, ExitStatus, Stdio};
-use std::sync::atomic::{AtomicBool, Ordering::Relaxed};
+use std::sync::atomic::{AtomicBool, AtomicUsize, Ordering::Relaxed};
 use std::time::{Duration, Instant};
 
 /// How a file is handed over: through a pipe that holds all of it, as a file on disk, in odd pieces, or a byte at a time.
@@ -32,8 +32,10 @@ pub struct Ran {
     pub took_all: bool,
 }
 
-/// A program that takes longer hangs. One run takes some milliseconds.
-const LIMIT: Duration = Duration::from_secs(20);
+/// A program that takes longer hangs. One run takes some milliseconds. One that hung so often is not run again.
+const LIMIT: Duration = Duration::from_secs(10);
+const HANGS: usize = 5;
+static HUNG: AtomicUsize = AtomicUsize::new(0);
 
 /// More than the program may print.
 const OUTPUT: usize = 4096;
@@ -78,6 +80,9 @@ fn pipe(packets: bool) -> std::io::Result<(OwnedFd, File)> {
 
 /// Runs the program. The place on disk is one that no other run uses meanwhile.
 pub fn run(program: &[String], input: &[u8], way: Way, place: &str) -> Result<Ran, String> {
+    if HUNG.load(Relaxed) >= HANGS {
+        return Err(format!("it is not run: it hung {HANGS} times"));
+    }
     let failed = |e: std::io::Error| e.to_string();
     match way {
         Way::Disk => {
@@ -157,6 +162,7 @@ fn ended(mut child: Child, took_all: bool) -> Result<Ran, String> {
         }
     }
     if status.is_none() {
+        HUNG.fetch_add(1, Relaxed);
         let _ = child.kill();
         let _ = child.wait();
     }
