@@ -38,8 +38,18 @@ pub fn run(seconds: u64, seed: u64, program: &[String]) -> usize {
         *lines.entry(kind_of(&line)).or_default() += 1;
     }
     println!("lines of the model: {}", counts(&lines));
-    println!("fuzz-verdict: seed {seed}, {seconds} s, {runs} runs, {differing} with a difference, a crash, a hang or another text");
+    let worked = processor_seconds().map_or("an unknown part".to_string(), |s| format!("{s} s"));
+    println!("fuzz-verdict: seed {seed}, {seconds} s, {worked} of them of processor time");
+    println!("fuzz-verdict: {runs} runs, {differing} with a difference, a crash, a hang or another text");
     differing as usize + (runs == 0) as usize
+}
+
+/// The processor time of this process and of the programs that it ran, behind the name in the line of /proc, in hundredths.
+fn processor_seconds() -> Option<u64> {
+    let line = std::fs::read_to_string("/proc/self/stat").ok()?;
+    let fields: Vec<&str> = line.rsplit_once(')')?.1.split_whitespace().collect();
+    let ticks: Option<Vec<u64>> = fields.get(11..15)?.iter().map(|field| field.parse().ok()).collect();
+    Some(ticks?.iter().sum::<u64>() / 100)
 }
 
 fn first_files(random: &mut Random) -> Vec<Vec<u8>> {

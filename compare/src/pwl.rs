@@ -256,7 +256,7 @@ mod tests {
     /// Read is the inverse of image, and no file that is read differs from the image of what it holds.
     #[test]
     fn there_and_back() {
-        for i in 0..3000 {
+        for i in 0..300 {
             let mut random = Random::of(29, i);
             let (n, m) = (random.pick(&[0, 1, 2, 63, 64, 65, 130]), random.within(0, 35));
             let rows = valid::rows(&mut random, n, m);
