@@ -26,7 +26,7 @@ use Rattle.reduction.specs.Workers.{through, columnC}
 use Rattle.reduction.proofs.Lists.{in-getD, in-left, in-right}
 use Rattle.reduction.proofs.Log.{length-first, logged-is}
 use Rattle.reduction.proofs.Stop.{stops-is-capped}
-use Rattle.terms.specs.declared.reduce.Progress.{Progress}
+use Rattle.late.specs.declared.Progress.{Progress}
 use Rattle.terms.specs.declared.Canonicalized.{Canonicalized}
 use Rattle.terms.specs.declared.Canonicalized.the-variants.{Done, Full, Refused}
 use Rattle.encoding.specs.Ranks.{byRank}

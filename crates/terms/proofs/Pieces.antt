@@ -16,7 +16,7 @@ use Rattle.reduction.specs.Log.{capacity}
 use Rattle.reduction.specs.Capacity.{done, full}
 use Rattle.reduction.specs.Workers.{andThen, multiplyC, turnC, leadC, pivotC, columnByC, columnC}
 use Rattle.reduction.proofs.Pieces.{At, pivot-at}
-use Rattle.terms.specs.declared.reduce.Progress.{Progress}
+use Rattle.late.specs.declared.Progress.{Progress}
 use Rattle.terms.specs.Leaves.{bitIn}
 use Rattle.terms.specs.Work.{Ready, runOf, outcome, Does}
 use Rattle.terms.proofs.RowView.{bit-view}

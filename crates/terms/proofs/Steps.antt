@@ -16,7 +16,7 @@ use Rattle.reduction.specs.Log.{pairs, capacity}
 use Rattle.reduction.specs.Capacity.{Reduced, done, full}
 use Rattle.reduction.specs.Workers.{andThen, through, multiplyC}
 use Rattle.reduction.proofs.Log.{length-first, pairs-more}
-use Rattle.terms.specs.declared.reduce.Progress.{Progress}
+use Rattle.late.specs.declared.Progress.{Progress}
 use Rattle.terms.specs.Leaves.{mulIn}
 use Rattle.terms.specs.Work.{Keeps, Ready, runOf, outcome, Does}
 use Rattle.terms.proofs.RowView.{Held, mul-view}

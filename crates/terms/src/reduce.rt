@@ -12,14 +12,8 @@ ghost use Rattle.terms.specs.Work.{Below, Ready, start, Does};
 use crate::rows::find;
 use crate::rows::get_bit;
 use crate::rows::imul_unchecked;
+use late::Progress;
 use pauli::RowNumber;
-
-// How far a run has come: whether its log is full, the entries in it, the pivots.
-pub struct Progress {
-    pub full: bool,
-    pub entries: usize,
-    pub t: usize,
-}
 
 // Row a is multiplied by row b, and (a, b) is logged, if the entry fits.
 fn put(
@@ -246,7 +240,7 @@ fn column(
 }
 
 // The columns of the order, one after another, from an empty log on.
-pub(crate) fn columns(
+fn by_loops(
     n: usize,
     m: usize,
     x: &mut [u64],
@@ -277,4 +271,53 @@ pub(crate) fn columns(
         i += 1;
     }
     r
+}
+
+// The rows, and the columns of the order, from which on the table of products of pivots pays.
+const LATE_ROWS: usize = 64;
+
+const LATE_COLUMNS: usize = 64;
+
+// The same with products put off, and made by a table.
+fn by_table(
+    n: usize,
+    m: usize,
+    x: &mut [u64],
+    z: &mut [u64],
+    p: &mut [u64],
+    log: &mut [u16],
+    order: &[u16],
+    listed: &[u16],
+    extra: &[u16],
+) -> Progress
+    requires { ⌜ Sound n (lent m x z p) ⌝ }
+    requires { ⌜ Below (n + n) (now order) × Below m (now listed) × Below m (now extra) ⌝ }
+    ensures { λ r. ⌜ Does n (through (columnC (bitRow n) (mulRow n) (capacity (now (log .entry))) (now (listed .entry)) (now (extra .entry)))
+        (now (order .entry))) (before m x z p) (now (log .entry)) start (after m x z p) (now (log .exit)) r ⌝ }
+{
+    late::columns(n, m, x, z, p, log, order, listed, extra)
+}
+
+// The same, whichever is faster.
+pub(crate) fn columns(
+    n: usize,
+    m: usize,
+    x: &mut [u64],
+    z: &mut [u64],
+    p: &mut [u64],
+    log: &mut [u16],
+    order: &[u16],
+    listed: &[u16],
+    extra: &[u16],
+) -> Progress
+    requires { ⌜ Sound n (lent m x z p) ⌝ }
+    requires { ⌜ Below (n + n) (now order) × Below m (now listed) × Below m (now extra) ⌝ }
+    ensures { λ r. ⌜ Does n (through (columnC (bitRow n) (mulRow n) (capacity (now (log .entry))) (now (listed .entry)) (now (extra .entry)))
+        (now (order .entry))) (before m x z p) (now (log .entry)) start (after m x z p) (now (log .exit)) r ⌝ }
+{
+    let few = (m < LATE_ROWS) | (order.len() < LATE_COLUMNS);
+    if few {
+        return by_loops(n, m, x, z, p, log, order, listed, extra);
+    }
+    by_table(n, m, x, z, p, log, order, listed, extra)
 }
