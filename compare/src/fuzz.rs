@@ -21,6 +21,8 @@ pub fn run(seconds: u64, seed: u64, program: &[String]) -> usize {
     let mut pool = first_files(&mut random);
     let mut lines = BTreeMap::new();
     let (mut runs, mut differing) = (0u64, 0u64);
+    // what this process ran before it became this program counts too
+    let before = processor_seconds();
     let (place, until) = (place_of(0), Instant::now() + Duration::from_secs(seconds));
     while Instant::now() < until {
         let file = changed(&mut random, &pool);
@@ -38,7 +40,7 @@ pub fn run(seconds: u64, seed: u64, program: &[String]) -> usize {
         *lines.entry(kind_of(&line)).or_default() += 1;
     }
     println!("lines of the model: {}", counts(&lines));
-    let worked = processor_seconds().map_or("an unknown part".to_string(), |s| format!("{s} s"));
+    let worked = processor_seconds().zip(before).map_or("an unknown part".to_string(), |(s, t)| format!("{} s", s - t));
     println!("fuzz-verdict: seed {seed}, {seconds} s, {worked} of them of processor time");
     println!("fuzz-verdict: {runs} runs, {differing} with a difference, a crash, a hang or another text");
     differing as usize + (runs == 0) as usize
