@@ -29,6 +29,8 @@ use Rattle.replay.specs.declared.Undone.{Undone}
 use Rattle.replay.specs.declared.Undone.the-variants as undone
 use Rattle.row_text.specs.declared.Written.{Written}
 use Rattle.row_text.specs.declared.Written.the-variants as written
+use Rattle.pwl.specs.declared.Written as fileWritten
+use Rattle.pwl.specs.declared.Written.the-variants as file
 use Rattle.mat_elem.specs.declared.whole.Element as wholeElement
 use Rattle.mat_elem.specs.declared.whole.Element.the-variants as whole
 use Rattle.mat_elem.specs.declared.float.Element as floatElement
@@ -240,6 +242,21 @@ abbrev pub undoLine : Undone → List ℕ → List ℕ → List ℕ → List ℕ
 undoLine (undone.BadEntry k) x z p = verdictAt (letters "ok bad") k x z p
 undoLine undone.Done x z p = verdictPlain (letters "ok done") x z p
 undoLine (undone.Refused k) x z p = refuse k
+
+-- ---- log files
+
+-- bytes, two digits each
+abbrev pub octetsText : List ℕ → List ℕ
+octetsText [] = []
+octetsText (v ∷ l) = digits 16 2 v ++ octetsText l
+
+-- ok BYTES, the first of what was lent
+unfoldable pub okFile : ℕ → List ℕ → List ℕ
+okFile n b = letters "ok " ++ (octetsText (take n b) ++ end)
+
+abbrev pub fileLine : fileWritten.Written → List ℕ → List ℕ
+fileLine (file.Length n) b = okFile n b
+fileLine (file.Refused k) b = refuse k
 
 -- ---- matrix elements
 

@@ -2,10 +2,10 @@
 ghost use mathlib.Core.Path.{_≡_};
 ghost use mathlib.Core.Bool.{cond};
 ghost use mathlib.Core.List.{[], _∷_, _++_};
-ghost use Rattle.forms.specs.Answers.{Says, numberText, wordText, integerText, floatText, wordsText, numbersText, setText, end as lineEnd, badLine, refuse as refused, okNumber, actedWord, letterOf, okLetter, gotLine, phaseLine, truthLine, tallyText, okCounts, countLine, okSet, changedLine, okProduct, productLine, okPairs, pairLine, okActed, actLine, okMatrix, matrixLine, textField, okText, writtenLine, pairsOf, pairText, pairsText, standing as standingText, okReduced, fullLog, reduceLine, verdictAt, verdictPlain, checkLine, undoLine, okWhole, okFloat, wholeLine, floatLine, totalLine};
-ghost use Prim.Native.Nat.{_*_};
+ghost use Rattle.forms.specs.Answers.{Says, numberText, wordText, integerText, floatText, wordsText, numbersText, setText, end as lineEnd, badLine, refuse as refused, okNumber, actedWord, letterOf, okLetter, gotLine, phaseLine, truthLine, tallyText, okCounts, countLine, okSet, changedLine, okProduct, productLine, okPairs, pairLine, okActed, actLine, okMatrix, matrixLine, textField, okText, writtenLine, pairsOf, pairText, pairsText, standing as standingText, okReduced, fullLog, reduceLine, verdictAt, verdictPlain, checkLine, undoLine, octetsText, okFile, fileLine, okWhole, okFloat, wholeLine, floatLine, totalLine};
+ghost use Prim.Native.Nat.{_*_, _<_};
 ghost use lib.ListN.{take};
-ghost use Rattle.text.specs.Numbers.{numeral};
+ghost use Rattle.text.specs.Numbers.{numeral, digits as Numbers·digits};
 ghost use Rattle.text.specs.Lists.{listed};
 ghost use Rattle.text.specs.Readers.{Added};
 ghost use Rattle.text.specs.Workers.{between};
@@ -558,6 +558,74 @@ pub fn undone(out: &mut [u8], r: Put, a: Undone, x: &[u64], z: &[u64], p: &[u64]
         Undone::BadEntry(k) => verdict_at(out, r, b"ok bad", k, x, z, p),
         Undone::Done => verdict(out, r, b"ok done", x, z, p),
         Undone::Refused(k) => refuse(out, r, k),
+    }
+}
+
+// ---- log files
+
+fn hexadecimal(out: &mut [u8], r: Put, v: u64) -> Put
+    ensures { λ q. ⌜ Says (numeral 16 v) (now (out .entry)) r (now (out .exit)) q ⌝ }
+{
+    if !r.ok {
+        return r;
+    }
+    let at = r.at;
+    text::put_hexadecimal(out, at, v)
+}
+
+// A byte in two digits.
+fn octet(out: &mut [u8], r: Put, v: u64) -> Put
+    requires { ⌜ v < 256 ⌝ }
+    ensures { λ q. ⌜ Says (Numbers·digits 16 2 v) (now (out .entry)) r (now (out .exit)) q ⌝ }
+{
+    let r = hexadecimal(out, r, v / 16);
+    hexadecimal(out, r, v % 16)
+}
+
+fn wide_byte(v: u8) -> u64
+    ensures { λ r. ⌜ (r ≡ v) × (r < 256) ⌝ }
+{
+    v as u64
+}
+
+fn octets(out: &mut [u8], r: Put, xs: &[u8]) -> Put
+    ensures { λ q. ⌜ Says (octetsText (now (xs .entry))) (now (out .entry)) r (now (out .exit)) q ⌝ }
+{
+    let n = xs.len();
+    let mut q = r;
+    let mut i = 0;
+    while i < n {
+        let v = wide_byte(xs[i]);
+        q = octet(out, q, v);
+        i += 1;
+    }
+    q
+}
+
+// The first n of the bytes.
+fn octets_part(out: &mut [u8], r: Put, n: usize, b: &[u8]) -> Put
+    ensures { λ q. ⌜ Says (octetsText (take n (now (b .entry)))) (now (out .entry)) r (now (out .exit)) q ⌝ }
+{
+    if n <= b.len() {
+        return octets(out, r, &b[0..n]);
+    }
+    octets(out, r, b)
+}
+
+fn ok_file(out: &mut [u8], r: Put, n: usize, b: &[u8]) -> Put
+    ensures { λ q. ⌜ Says (okFile n (now (b .entry))) (now (out .entry)) r (now (out .exit)) q ⌝ }
+{
+    let r = letters(out, r, b"ok ");
+    let r = octets_part(out, r, n, b);
+    end(out, r)
+}
+
+pub fn filed(out: &mut [u8], r: Put, a: pwl::Written, b: &[u8]) -> Put
+    ensures { λ q. ⌜ Says (fileLine a (now (b .entry))) (now (out .entry)) r (now (out .exit)) q ⌝ }
+{
+    match a {
+        pwl::Written::Length(n) => ok_file(out, r, n, b),
+        pwl::Written::Refused(k) => refuse(out, r, k),
     }
 }
 
