@@ -2,6 +2,7 @@
 mod conjugate;
 mod elements;
 mod feed;
+mod files;
 mod line;
 mod naming;
 mod pairwise;
@@ -35,6 +36,9 @@ pub(crate) const STATES: usize = MAX_VECTORS + 64;
 
 // The bytes of a row's text, lent or in a list: more than the longest has, 23,465 of 4,096 qubits.
 pub(crate) const TEXT: usize = 24000;
+
+// The bytes of the longest log file that is answered: those that `verdict` takes.
+pub(crate) const FILE: usize = 16384;
 
 // The bytes of the longest line, its end among them.
 pub(crate) const LINE: usize = 3500000;

@@ -54,6 +54,7 @@ pub(crate) fn of_more(s: &[u8], n: usize) -> bool {
         | is(s, n, b"reduceall")
         | is(s, n, b"check")
         | is(s, n, b"undo")
+        | is(s, n, b"pwl")
 }
 
 // Matrix elements.

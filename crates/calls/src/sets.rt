@@ -3,6 +3,7 @@
 use crate::PHASES;
 use crate::WORDS;
 use crate::conjugate;
+use crate::files;
 use crate::naming::is;
 use crate::pairwise;
 use crate::reducing;
@@ -70,6 +71,9 @@ fn lending(
     }
     if is(s, end, b"pair") {
         return pairwise::pair(s, at, n, m, x, z, p, out, r);
+    }
+    if is(s, end, b"pwl") {
+        return files::file(s, end, x, z, p, out, r);
     }
     r
 }
