@@ -135,10 +135,10 @@ fn faults_of(out: &[u8]) -> Vec<String> {
 /// 12, which arise in the work, and of the checker the rows of a full replay.
 pub fn rust_answers(line: &str, model: &str) -> bool {
     let works = model.starts_with("ok ") || model == "none" || model.starts_with("refuse 8 ") || model == "refuse 12";
-    works && !model.starts_with("ok bad ") && !beyond_floats(line) && !reads_text(line)
+    works && !model.starts_with("ok bad ") && !beyond_floats(line) && !reads_text(line) && !line.starts_with("pwl ")
 }
 
-/// The Rust writes the text of a row and reads none.
+/// The Rust writes the text of a row and reads none. It has no log files either.
 fn reads_text(line: &str) -> bool {
     line.starts_with("read ") || line.starts_with("readx ")
 }

@@ -122,7 +122,7 @@ fn own(call: &str) -> &'static [(u8, Fault)] {
             (3, numbers_shorter),
             (3, numbers_above_rows),
         ],
-        "reduce" => {
+        "reduce" | "pwl" => {
             const REDUCE: &[(u8, Fault)] = &[
                 (6, column_too_large),
                 (6, listed_too_large),
@@ -738,7 +738,7 @@ fn log_short(case: &mut Case, _: &mut Random) -> bool {
 fn needed(case: &Case, n: usize, set: &Set) -> usize {
     let (order, listed): (Vec<u16>, Vec<u16>) = ((0..2 * n as u16).collect(), (0..set.m as u16).collect());
     let lists = match case.call {
-        "reduce" => Lists { order: case.shorts(MORE), listed: case.shorts(MORE + 1), extra: case.shorts(MORE + 2) },
+        "reduce" | "pwl" => Lists { order: case.shorts(MORE), listed: case.shorts(MORE + 1), extra: case.shorts(MORE + 2) },
         _ => Lists { order: &order, listed: &listed, extra: &[] },
     };
     let rows = |list: &[u16]| list.iter().all(|row| (*row as usize) < set.m);

@@ -54,6 +54,7 @@ fn list() -> Vec<String> {
     engines(&mut out);
     walked_back(&mut out);
     gates(&mut out);
+    files(&mut out);
     many_vectors(&mut out);
     texts(&mut out);
     phases(&mut out);
@@ -711,6 +712,43 @@ fn phases(out: &mut Vec<String>) {
 
 fn printable(line: &str) -> bool {
     line.bytes().all(|byte| matches!(byte, b' '..=b'~' | b'\t'))
+}
+
+/// The worked file of docs/PWL.md, runs that have no file, and files as long as are answered and longer.
+fn files(out: &mut Vec<String>) {
+    group(
+        out,
+        "log files: docs/PWL.md; a full log; no rows, no qubits; an extra row, phases; refused as reduce",
+        &[
+            "pwl 2 3 0,3,1 1,0,1 0 0,1,2,3 0,1,2 - 14",
+            "pwl 2 3 0,3,1 1,0,1 0 0,1,2,3 0,1,2 - 100",
+            "pwl 2 3 0,3,1 1,0,1 0 0,1,2,3 0,1,2 - 12",
+            "pwl 2 3 0,3,1 1,0,1 0 0,1,2,3 0,1,2 - 0",
+            "pwl 0 0 - - - - - - 0",
+            "pwl 0 3 - - 39 - 2,0,1 0,0 0",
+            "pwl 4096 0 - - - 8191,0 - - 1",
+            "pwl 65 2 1,1,1,0 0,1,0,0 7 0,64,129 1 0,0 9",
+            "pwl 1 2 1,1 0,0 0 0 0 0,1 1",
+            "pwl 1 2 1,1 0,0 10 0 0 1 4",
+            "pwl 1 2 1,1 0,0 0 2 0 1 4",
+            "pwl 1 2 1,1 0,0 0 0 0,0 1 4",
+            "pwl 1 2 1,1 0,0 0 0,0 0 1 4",
+            "pwl 1 2 1,1 0,0 0 0 0 1",
+            "pwl 1 2 1,1 0,0 0 0 0 1 4 4",
+            "pwl 1 2 1,1 0,0 0 0 0 1 140001",
+        ],
+    );
+    // the longest file that is answered, 16,383 bytes, and one of 16,385: 466 rows without an entry, one extra row and two
+    let rows = packed(64, &vec![Row { paulis: vec![Pauli::I; 64], phase: 0 }; 466]);
+    for extra in [1, 2] {
+        let more = vec![
+            Field::Shorts((0..128).collect()),
+            Field::Shorts((0..466).collect()),
+            Field::Shorts(vec![465; extra]),
+            Field::Number(0),
+        ];
+        out.push(valid::call_on("pwl", 64, &rows, more).line());
+    }
 }
 
 /// The example of docs/GATES.md, both ends, and every rule of each gate in one set.

@@ -13,7 +13,7 @@ use crate::small::Sink;
 use crate::valid::call_on;
 
 /// A sound line of each call, with something in every list.
-const LINES: [&str; 25] = [
+const LINES: [&str; 26] = [
     "phase1 1 0 1 1",
     "act1 1 1 1",
     "get 1 2 1,0 0,1 c 1 0",
@@ -32,6 +32,7 @@ const LINES: [&str; 25] = [
     "write 1 2 1,0 0,1 c 1 2",
     "read 1 2 1,0 0,1 c 1 Y0",
     "readx 1 2 1,0 0,1 c 1 59,30",
+    "pwl 1 2 1,1 0,1 c 0,1 0 1 8",
     "reduce 1 2 1,1 0,1 c 0,1 0 1 8",
     "reduceall 1 2 1,1 0,1 c 8",
     "check 1 2 1,1 0,1 c 0,1 0 1 1,0 1,0 0,1 4",

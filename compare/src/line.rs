@@ -26,7 +26,7 @@ pub enum Field {
 /// terms, I list of i32, K words of a state of many basis vectors, k list of i32 beside them, L letter, C a Clifford gate
 /// with its qubits, R the rest of the line, H list of bytes of a text; lent lengths: o words of a matrix, T four of a set to
 /// be written, u units of a log, t bytes of a text.
-pub const CALLS: [(&str, &str); 24] = [
+pub const CALLS: [(&str, &str); 25] = [
     ("phase1", "wwww"),
     ("act1", "www"),
     ("get", "nnWWPnn"),
@@ -44,6 +44,7 @@ pub const CALLS: [(&str, &str); 24] = [
     ("write", "nnWWPnt"),
     ("read", "nnWWPnR"),
     ("readx", "nnWWPnH"),
+    ("pwl", "nnWWPSSSu"),
     ("reduce", "nnWWPSSSu"),
     ("reduceall", "nnWWPu"),
     ("check", "nnWWPSSSGWWP"),

@@ -4,6 +4,7 @@
 use crate::gates::conjugate;
 use crate::limits::{QUBITS, ROWS, TERMS, VECTORS};
 use crate::line::{hexes, joined, parsed, Case, Field, M, MORE, SET};
+use crate::pwl;
 use crate::reduction::{first_bad, is_reduced, reduce, replay, walk_back, Lists};
 use crate::rows::*;
 use crate::texts;
@@ -114,7 +115,7 @@ fn number_too_large(case: &Case, n: usize, m: usize) -> bool {
         "get" | "set" => row(MORE) || case.number(MORE + 1) >= n as u64,
         "count" | "central" | "act" | "write" | "read" | "readx" => row(MORE),
         "phase" | "phaset" | "comm" | "imul" => row(MORE) || row(MORE + 1),
-        "reduce" | "check" => columns(MORE) || rows(MORE + 1) || rows(MORE + 2),
+        "reduce" | "pwl" | "check" => columns(MORE) || rows(MORE + 1) || rows(MORE + 2),
         "undo" => rows(MORE) || rows(MORE + 1),
         "gate" => case.gate(MORE).qubits().iter().any(|q| *q >= n as u64),
         _ => false,
@@ -124,7 +125,7 @@ fn number_too_large(case: &Case, n: usize, m: usize) -> bool {
 /// The fields of the order, where there is one, and of the listed rows.
 fn places_of(case: &Case) -> Option<(Option<usize>, usize)> {
     match case.call {
-        "reduce" | "check" => Some((Some(MORE), MORE + 1)),
+        "reduce" | "pwl" | "check" => Some((Some(MORE), MORE + 1)),
         "undo" => Some((None, MORE)),
         _ => None,
     }
@@ -248,6 +249,7 @@ fn over_set(case: &Case) -> String {
             multiply(&mut rows, case.number(MORE) as usize, case.number(MORE + 1) as usize);
             format!("ok {} {number}", rows_text(n, &rows))
         }
+        "pwl" => file(case, n, rows),
         "check" => check(case, n, rows),
         "undo" => undo(case, n, rows),
         "gate" => {
@@ -323,12 +325,12 @@ fn pair(case: &Case, n: usize, left: &[Row]) -> String {
     format!("ok {} {}", rows_text(n, &out), joined(&numbers))
 }
 
-/// `reduce` and `reduceall`. The latter goes through all columns, and all rows are listed.
+/// `reduce`, `reduceall`, and `pwl` where its log is full. `reduceall` goes through all columns, and all rows are listed.
 fn reduction(case: &Case, n: usize, mut rows: Vec<Row>) -> String {
     let all_columns: Vec<u16> = (0..2 * n as u16).collect();
     let all_rows: Vec<u16> = (0..rows.len() as u16).collect();
     let lists = match case.call {
-        "reduce" => lists_of(case),
+        "reduce" | "pwl" => lists_of(case),
         _ => Lists { order: &all_columns, listed: &all_rows, extra: &[] },
     };
     let Some(Field::Number(units)) = case.fields.last() else { unreachable!("the last field is the log's length") };
@@ -337,6 +339,30 @@ fn reduction(case: &Case, n: usize, mut rows: Vec<Row>) -> String {
     let log = joined(&done.log.iter().map(|(a, b)| format!("{a}:{b}")).collect::<Vec<_>>());
     let head = if done.full { format!("refuse 8 {capacity}") } else { format!("ok {} {}", done.log.len(), done.t) };
     format!("{head} {log} {}", rows_text(n, &rows))
+}
+
+/// The bytes of a finished run's file, as many as `verdict` takes; where the log is full, the answer of `reduce`.
+fn file(case: &Case, n: usize, rows: Vec<Row>) -> String {
+    let (start, lists) = (set_at(case, SET), lists_of(case));
+    let mut claimed = rows.clone();
+    let done = reduce(&mut claimed, lists, case.number(MORE + 3) as usize / 2);
+    if done.full {
+        return reduction(case, n, rows);
+    }
+    let bytes = pwl::image(&pwl::Record {
+        n: n as u16,
+        m: start.m as u16,
+        order: lists.order.to_vec(),
+        listed: lists.listed.to_vec(),
+        extra: lists.extra.to_vec(),
+        start,
+        log: done.units(),
+        claim: packed(n, &claimed),
+    });
+    if bytes.len() > pwl::LONGEST {
+        return "refuse 14".to_string();
+    }
+    format!("ok {}", bytes.iter().map(|byte| format!("{byte:02x}")).collect::<String>())
 }
 
 fn lists_of(case: &Case) -> Lists<'_> {

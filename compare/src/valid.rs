@@ -145,7 +145,7 @@ pub fn over_rows(random: &mut Random, call: &str, n: usize, rows: Vec<Row>) -> C
         "write" => texts::to_be_written(random, &rows),
         "read" => vec![some(random, m), Field::Text(texts::random(random, n, true))],
         "readx" => vec![some(random, m), Field::TextBytes(texts::random(random, n, false))],
-        "reduce" => reduction(random, n, &rows),
+        "reduce" | "pwl" => reduction(random, n, &rows),
         "undo" => walked(random, n, &rows),
         _ => check(random, n, &rows),
     };
