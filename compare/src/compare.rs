@@ -275,22 +275,35 @@ impl Run {
 
     /// Prints the table; the number of cases with a difference, of faults, and of what the run could not have seen.
     pub fn report(&self) -> usize {
+        self.print_table(true);
+        println!("{}", self.wholes.report());
+        println!("{}", self.signs.report());
+        println!("{}", self.wrong());
+        self.shown + self.faults + self.wholes.blind() as usize
+    }
+
+    /// Prints the table of the calls that were asked; the number of cases with a difference and of faults, and never 0
+    /// where no program was asked anything.
+    pub fn report_some(&self) -> usize {
+        self.print_table(false);
+        self.report_lines()
+    }
+
+    fn print_table(&self, whole: bool) {
         println!("| call | cases | Rust and model | differ | calls and model | differ | calls and Rust | differ |");
         println!("|---|---:|---:|---:|---:|---:|---:|---:|");
         let names = CALLS.iter().map(|call| call.0).chain(["not of the form"]);
         let mut sum = Tally::default();
         for name in names {
             let tally = self.tallies.get(name).cloned().unwrap_or_default();
-            print_row(name, &tally);
+            if whole || tally.cases > 0 {
+                print_row(name, &tally);
+            }
             add(&mut sum, &tally);
         }
         print_row("all", &sum);
         let kinds: Vec<String> = self.kinds.iter().map(|(kind, count)| format!("{kind}: {count}")).collect();
         println!("answers of the model: {}", kinds.join(", "));
-        println!("{}", self.wholes.report());
-        println!("{}", self.signs.report());
-        println!("{}", self.wrong());
-        self.shown + self.faults + self.wholes.blind() as usize
     }
 
     /// Prints how some lines were answered; the number of cases with a difference and of faults, and never 0 where no

@@ -1,4 +1,5 @@
 //! compare run SEED COUNT ORACLE [CALLS...]    compare, print the table
+//! compare late SEED COUNT ORACLE [CALLS...]   compare on reductions at the edges of the table
 //! compare lines ORACLE [CALLS...]             compare on the lines of standard input
 //! compare fixed ORACLE CASES ANSWERS          write the fixed list
 //! compare cases SEED COUNT                    print the lines of a run
@@ -22,6 +23,7 @@ mod fixed;
 mod forms;
 mod fuzz;
 mod gates;
+mod late;
 mod limits;
 mod line;
 mod malformed;
@@ -50,6 +52,7 @@ fn main() {
     let args: Vec<&str> = args.iter().map(String::as_str).collect();
     let differences = match args[..] {
         ["run", seed, count, oracle, ref calls @ ..] => run(number(seed), number(count), oracle, calls),
+        ["late", seed, count, oracle, ref calls @ ..] => run_late(number(seed), number(count), oracle, calls),
         ["lines", oracle, ref calls @ ..] => compare_lines(oracle, calls),
         ["fixed", oracle, cases, answers] => fixed::write(program(&[oracle]), cases, answers),
         ["cases", seed, count] => print_cases(number(seed), number(count)),
@@ -73,7 +76,7 @@ fn main() {
 
 fn usage() -> ! {
     eprintln!(
-        "usage: compare run SEED COUNT ORACLE [CALLS...] | lines ORACLE [CALLS...] | fixed ORACLE CASES ANSWERS | cases SEED COUNT | model \
+        "usage: compare run SEED COUNT ORACLE [CALLS...] | late SEED COUNT ORACLE [CALLS...] | lines ORACLE [CALLS...] | fixed ORACLE CASES ANSWERS | cases SEED COUNT | model \
          | files SEED COUNT VERDICT... | few VERDICT... | file SEED NUMBER | fuzz SECONDS SEED VERDICT... | verdict | page PAGE"
     );
     exit(2)
@@ -98,6 +101,16 @@ fn run(seed: u64, count: u64, oracle: &str, calls: &[&str]) -> usize {
     run.work_off(&programs);
     println!("seed {seed}, {count} random cases and all small ones");
     run.report()
+}
+
+fn run_late(seed: u64, count: u64, oracle: &str, calls: &[&str]) -> usize {
+    let programs = Programs { oracle: program(&[oracle]), calls: program(calls) };
+    let mut run = Run::default();
+    let reached = late::all(seed, count, &mut |line| run.put(&programs, line));
+    run.work_off(&programs);
+    println!("seed {seed}, {count} reductions at the edges of the table");
+    println!("{}", reached.report());
+    run.report_some() + reached.blind() as usize
 }
 
 fn compare_lines(oracle: &str, calls: &[&str]) -> usize {

@@ -5,6 +5,8 @@ use crate::rows::{at_column, inverse, multiply, row_product, Row};
 pub struct Reduction {
     pub log: Vec<(u16, u16)>,
     pub t: usize,
+    /// The entries behind each pivot.
+    pub ends: Vec<usize>,
     /// The rule needed more entries than fit.
     pub full: bool,
 }
@@ -25,7 +27,7 @@ pub struct Lists<'a> {
 }
 
 pub fn reduce(rows: &mut [Row], lists: Lists, capacity: usize) -> Reduction {
-    let mut out = Reduction { log: vec![], t: 0, full: false };
+    let mut out = Reduction { log: vec![], t: 0, ends: vec![], full: false };
     for column in lists.order {
         let found = lists.listed.iter().skip(out.t).find(|row| at_column(&rows[**row as usize], *column));
         let Some(found) = found else { continue };
@@ -40,6 +42,7 @@ pub fn reduce(rows: &mut [Row], lists: Lists, capacity: usize) -> Reduction {
             }
         }
         out.t += 1;
+        out.ends.push(out.log.len());
     }
     out
 }

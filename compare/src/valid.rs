@@ -180,7 +180,7 @@ impl OwnLists {
         Lists { order: &self.order, listed: &self.listed, extra: &self.extra }
     }
 
-    fn fields(&self) -> Vec<Field> {
+    pub fn fields(&self) -> Vec<Field> {
         vec![Field::Shorts(self.order.clone()), Field::Shorts(self.listed.clone()), Field::Shorts(self.extra.clone())]
     }
 }
