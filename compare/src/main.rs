@@ -76,7 +76,8 @@ fn main() {
 
 fn usage() -> ! {
     eprintln!(
-        "usage: compare run SEED COUNT ORACLE [CALLS...] | late SEED COUNT ORACLE [CALLS...] | lines ORACLE [CALLS...] | fixed ORACLE CASES ANSWERS | cases SEED COUNT | model \
+        "usage: compare run SEED COUNT ORACLE [CALLS...] | late SEED COUNT ORACLE [CALLS...] \
+         | lines ORACLE [CALLS...] | fixed ORACLE CASES ANSWERS | cases SEED COUNT | model \
          | files SEED COUNT VERDICT... | few VERDICT... | file SEED NUMBER | fuzz SECONDS SEED VERDICT... | verdict | page PAGE"
     );
     exit(2)
