@@ -5,17 +5,8 @@
 //! and the refusals one past the limits.
 
 mod c_limits;
-#[path = "../../oracle/src/fields.rs"]
-#[allow(dead_code)]
-mod fields;
 mod limits;
-#[path = "../../compare/src/rows.rs"]
-#[allow(dead_code)]
-mod model;
 mod ours;
-#[path = "../../compare/src/random.rs"]
-#[allow(dead_code)]
-mod random;
 mod reducing;
 mod rows;
 mod stack;
@@ -23,9 +14,11 @@ mod table;
 
 use std::hint::black_box;
 
+use lines::{random, rows as model};
 use oracle::container::coeffs::complex_sign::ComplexSign;
 use oracle::container::traits::{Elements, RefElements};
 use oracle::container::word_iters::WordIters;
+use oracle::fields;
 use oracle::qubit::clifford;
 use oracle::qubit::mode::Qubits;
 use oracle::qubit::pauli::cmpnt_major::mat_elem::{mat_elem_cmpnts_from_presorted, mat_elem_from_presorted};

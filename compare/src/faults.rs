@@ -1,7 +1,6 @@
 //! What makes a call one to be refused. Each fault is one change to a call that has none, so that refusals can be
 //! asked for alone and in pairs.
 
-use crate::gates::Gate;
 use crate::limits::{QUBITS, ROWS, VECTORS, WORDS_IN_REACH};
 use crate::line::{Case, Field, M, MORE, SET};
 use crate::model::set_at;
@@ -9,6 +8,7 @@ use crate::random::Random;
 use crate::reduction::{reduce, Lists};
 use crate::rows::{phase_words_for, unpacked, words_for, Set, PHASES};
 use crate::texts;
+use lines::gate::Gate;
 
 /// A change, and whether it could be made.
 pub type Fault = fn(&mut Case, &mut Random) -> bool;
@@ -738,7 +738,9 @@ fn log_short(case: &mut Case, _: &mut Random) -> bool {
 fn needed(case: &Case, n: usize, set: &Set) -> usize {
     let (order, listed): (Vec<u16>, Vec<u16>) = ((0..2 * n as u16).collect(), (0..set.m as u16).collect());
     let lists = match case.call {
-        "reduce" | "pwl" => Lists { order: case.shorts(MORE), listed: case.shorts(MORE + 1), extra: case.shorts(MORE + 2) },
+        "reduce" | "pwl" => {
+            Lists { order: case.shorts(MORE), listed: case.shorts(MORE + 1), extra: case.shorts(MORE + 2) }
+        }
         _ => Lists { order: &order, listed: &listed, extra: &[] },
     };
     let rows = |list: &[u16]| list.iter().all(|row| (*row as usize) < set.m);

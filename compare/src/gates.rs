@@ -1,47 +1,10 @@
 //! Clifford gates on rows, by matrices alone: gate, Paulis and inverse gate on the touched qubits are multiplied out, and
 //! what comes out is looked up among the Paulis and their negatives. No sign rule is written down here.
 
+use lines::gate::Gate;
+
 use crate::random::Random;
 use crate::rows::{Pauli, Row, LETTERS};
-
-#[derive(Clone, Copy, Debug, PartialEq)]
-pub enum Gate {
-    H(u64),
-    S(u64),
-    CX(u64, u64),
-}
-
-/// The fields of a gate on a line.
-pub fn parsed<'a>(words: &mut impl Iterator<Item = &'a str>, number: impl Fn(&str) -> Option<u64>) -> Option<Gate> {
-    match words.next()? {
-        "h" => Some(Gate::H(number(words.next()?)?)),
-        "s" => Some(Gate::S(number(words.next()?)?)),
-        "cx" => Some(Gate::CX(number(words.next()?)?, number(words.next()?)?)),
-        _ => None,
-    }
-}
-
-impl Gate {
-    pub fn text(self) -> String {
-        match self {
-            Gate::H(q) => format!("h {q}"),
-            Gate::S(q) => format!("s {q}"),
-            Gate::CX(c, t) => format!("cx {c} {t}"),
-        }
-    }
-
-    /// The control stands before the target.
-    pub fn qubits(self) -> Vec<u64> {
-        match self {
-            Gate::H(q) | Gate::S(q) => vec![q],
-            Gate::CX(c, t) => vec![c, t],
-        }
-    }
-
-    pub fn one_qubit_twice(self) -> bool {
-        matches!(self, Gate::CX(c, t) if c == t)
-    }
-}
 
 /// A Gaussian integer, and a square matrix of them.
 type Number = (i64, i64);

@@ -24,15 +24,11 @@ mod forms;
 mod fuzz;
 mod gates;
 mod late;
-mod limits;
-mod line;
 mod malformed;
 mod model;
 mod phases;
 mod pwl;
-mod random;
 mod reduction;
-mod rows;
 mod small;
 mod spawn;
 mod states;
@@ -44,6 +40,8 @@ mod whole;
 
 use std::io::{BufRead, Read, Write};
 use std::process::exit;
+
+use lines::{limits, line, random, rows};
 
 use compare::{Programs, Run};
 

@@ -1,13 +1,13 @@
 //! Phases two bits each: numbers of rows around the ends of phase words and at the limit, spare bits, phase words too few
 //! and too many, and sums that would carry into a neighbour.
 
-use crate::gates::Gate;
 use crate::limits::ROWS;
 use crate::line::{Case, Field, CALLS, M, MORE, SET};
 use crate::random::Random;
 use crate::rows::{packed, Pauli, Row, PHASES};
 use crate::small::{pair, Sink};
 use crate::valid::{call_on, over_rows, rows};
+use lines::gate::Gate;
 
 /// Numbers of rows: none, one, the ends of one word and of two, the limit and past it.
 const EDGES: [usize; 11] = [0, 1, 31, 32, 33, 63, 64, 65, ROWS - 1, ROWS, ROWS + 1];

@@ -2,13 +2,13 @@
 
 use std::collections::HashMap;
 
+use lines::line::{parsed, Case};
 use num_complex::Complex64;
 use oracle::container::bit_matrix::AsBitMatrix;
 use oracle::container::coeffs::complex_sign::{ComplexSign, ComplexSignVec};
 use oracle::container::coeffs::traits::{NumRepr, NumReprVec};
 use oracle::container::traits::{Elements, MutRefElements, RefElements};
 use oracle::container::word_iters::WordIters;
-use oracle::qubit::clifford;
 use oracle::qubit::mode::{PauliMatrix, Qubits, SymplecticPart};
 use oracle::qubit::pauli::cmpnt_major::cmpnt_list::CmpntList;
 use oracle::qubit::pauli::cmpnt_major::mat_elem::{mat_elem_cmpnts_from_presorted, mat_elem_from_presorted};
@@ -24,10 +24,12 @@ type Set = Terms<ComplexSign>;
 
 /// The answer to a line, or nothing where there is none.
 pub fn answer(line: &str) -> Option<String> {
-    let mut fields = Fields(line.split(' '));
-    let call = fields.text()?;
-    let f = &mut fields;
-    match call {
+    answer_to(&parsed(line)?)
+}
+
+pub fn answer_to(case: &Case) -> Option<String> {
+    let f = &mut Fields(case.fields.iter());
+    match case.call {
         "phase1" => phase1(f),
         "act1" => act1(f),
         "elemf" => elemf(f),
@@ -36,7 +38,7 @@ pub fn answer(line: &str) -> Option<String> {
         _ => {
             let (n, m) = (f.number()?, f.number()?);
             let set = f.set(n, m)?;
-            over_set(call, n, set, f)
+            over_set(case.call, n, set, f)
         }
     }
 }
@@ -84,7 +86,7 @@ fn get(rows: &CmpntList, f: &mut Fields) -> Option<String> {
 }
 
 fn set_qubit(mut set: Set, f: &mut Fields) -> Option<String> {
-    let (row, q, to) = (f.number()?, f.number()?, pauli(f.text()?)?);
+    let (row, q, to) = (f.number()?, f.number()?, f.pauli()?);
     set.word_iters.get_elem_mut_ref(row).set_pauli(q, to).ok()?;
     Some(format!("ok {}", set_text(&set)))
 }
@@ -105,7 +107,7 @@ fn state(n: usize, words: &[u64]) -> StateList {
 
 fn act(n: usize, rows: &CmpntList, f: &mut Fields) -> Option<String> {
     let row = rows.get_elem_ref(f.number()?);
-    let mut ket = state(n, &f.words()?);
+    let mut ket = state(n, f.words()?);
     let phase = ket.get_elem_mut_ref(0).imul_by_op(row);
     Some(format!("ok {} {}", exponent(phase), hex(ket.elem_u64it(0))))
 }
@@ -158,12 +160,7 @@ fn imul(n: usize, mut set: Set, f: &mut Fields) -> Option<String> {
 
 /// Each row's word and sign by the Rust's `conj_clifford` of terms, the sign being its coefficient's.
 fn gate(mut set: Set, f: &mut Fields) -> Option<String> {
-    let gate = match f.text()? {
-        "h" => clifford::h(f.number()?),
-        "s" => clifford::s(f.number()?),
-        "cx" => clifford::cx(f.number()?, f.number()?)?,
-        _ => return None,
-    };
+    let gate = f.gate()?;
     set.conj_clifford(gate);
     Some(format!("ok {}", set_text(&set)))
 }
@@ -175,8 +172,8 @@ fn write(rows: &CmpntList, f: &mut Fields) -> Option<String> {
 }
 
 fn reduce(n: usize, set: Set, f: &mut Fields) -> Option<String> {
-    let order = f.numbers::<usize>()?.into_iter().map(|c| column(n, c)).collect::<Vec<_>>();
-    let (listed, extra, units) = (f.numbers::<usize>()?, f.numbers::<usize>()?, f.number()?);
+    let order = f.places()?.into_iter().map(|c| column(n, c)).collect::<Vec<_>>();
+    let (listed, extra, units) = (f.places()?, f.places()?, f.number()?);
     let mut done = set.clone();
     let log = done.canonicalize(&order, &listed, &extra).ok()?;
     Some(reduction(set, done, &order, &listed, &log, units / 2))
@@ -228,14 +225,14 @@ fn replayed(mut set: Set, log: &[(usize, usize)]) -> Set {
 
 /// The Rust has no checker. The rows that a log leads to are its own products.
 fn replay(set: Set, f: &mut Fields) -> Option<String> {
-    let (_order, _listed, _extra) = (f.text()?, f.text()?, f.text()?);
+    let (_order, _listed, _extra) = (f.field()?, f.field()?, f.field()?);
     Some(format!("replay {}", set_text(&replayed(set, &f.log()?))))
 }
 
 /// The Rust has no undo. The rows are its own products, entry by entry from the last on, the source's coefficient being its
 /// conjugate meanwhile: that of a power of i is its inverse, and a Pauli is its own.
 fn undo(mut set: Set, f: &mut Fields) -> Option<String> {
-    let (_listed, _extra) = (f.text()?, f.text()?);
+    let (_listed, _extra) = (f.field()?, f.field()?);
     for (target, source) in f.log()?.into_iter().rev() {
         let own = set.coeffs.get_unchecked(source);
         set.coeffs.set_unchecked(source, own.conj());
@@ -275,8 +272,8 @@ fn elemf(f: &mut Fields) -> Option<String> {
     let (n, x, z) = (f.number()?, f.words()?, f.words()?);
     let (re, im) = (f.words()?, f.words()?);
     let float = |bits: &u64| f64::from_bits(*bits);
-    let coeffs = re.iter().zip(&im).map(|(re, im)| Complex64::new(float(re), float(im))).collect();
-    let sum = element(n, &operator(n, &x, &z, coeffs), f.word()?, f.word()?);
+    let coeffs = re.iter().zip(im).map(|(re, im)| Complex64::new(float(re), float(im))).collect();
+    let sum = element(n, &operator(n, x, z, coeffs), f.word()?, f.word()?);
     Some(match sum {
         Some(sum) => format!("ok {:016x} {:016x}", sum.re.to_bits(), sum.im.to_bits()),
         None => "none".to_string(),
@@ -286,9 +283,9 @@ fn elemf(f: &mut Fields) -> Option<String> {
 /// The Rust has no whole-number coefficients. Its complex ones hold i32 parts and their sums exactly.
 fn elemi(f: &mut Fields) -> Option<String> {
     let (n, x, z) = (f.number()?, f.words()?, f.words()?);
-    let (re, im) = (f.numbers::<i32>()?, f.numbers::<i32>()?);
-    let coeffs = re.iter().zip(&im).map(|(re, im)| Complex64::new(*re as f64, *im as f64)).collect();
-    let sum = element(n, &operator(n, &x, &z, coeffs), f.word()?, f.word()?);
+    let (re, im) = (f.ints()?, f.ints()?);
+    let coeffs = re.iter().zip(im).map(|(re, im)| Complex64::new(*re as f64, *im as f64)).collect();
+    let sum = element(n, &operator(n, x, z, coeffs), f.word()?, f.word()?);
     Some(match sum {
         Some(sum) => format!("ok {} {}", sum.re as i64, sum.im as i64),
         None => "none".to_string(),
@@ -304,14 +301,14 @@ fn states(n: usize, f: &mut Fields) -> Option<States<Complex64>> {
     let words = f.words()?;
     let mut list = StateList::new(Qubits::from_count(n));
     words.iter().for_each(|word| list.push_u64it([*word].into_iter()));
-    Some(States::from((list, complex(&f.numbers::<i32>()?, &f.numbers::<i32>()?))))
+    Some(States::from((list, complex(f.ints()?, f.ints()?))))
 }
 
 /// States of many basis vectors. It is asked where f64 hold every number on the way.
 fn elems(f: &mut Fields) -> Option<String> {
     let (n, x, z) = (f.number()?, f.words()?, f.words()?);
-    let coeffs = complex(&f.numbers::<i32>()?, &f.numbers::<i32>()?);
-    let op = operator(n, &x, &z, coeffs);
+    let coeffs = complex(f.ints()?, f.ints()?);
+    let op = operator(n, x, z, coeffs);
     let sum = mat_elem_from_presorted(&op.terms, &op.blocks, &states(n, f)?, &states(n, f)?);
     Some(format!("ok {} {}", sum.re as i64, sum.im as i64))
 }

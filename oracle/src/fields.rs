@@ -1,59 +1,91 @@
-//! The fields of a line, read into the Rust's own containers, and these written back.
+//! The fields of a case, read into the Rust's own containers, and these written back.
 
+use lines::gate::Gate;
+use lines::line::Field;
 use oracle::container::coeffs::complex_sign::{ComplexSign, ComplexSignVec};
 use oracle::container::coeffs::traits::NumReprVec;
 use oracle::container::traits::{Elements, MutRefElements, RefElements};
+use oracle::qubit::clifford;
 use oracle::qubit::mode::{PauliMatrix, Qubits, SymplecticPart};
 use oracle::qubit::pauli::cmpnt_major::cmpnt_list::CmpntList;
 use oracle::qubit::pauli::cmpnt_major::terms::Terms;
 use oracle::qubit::traits::PauliWordRef;
 
-/// The fields of a line after its first, taken one by one.
-pub struct Fields<'a>(pub std::str::Split<'a, char>);
+/// The fields of a case, taken one by one. There is nothing where a field is of another kind.
+pub struct Fields<'a>(pub std::slice::Iter<'a, Field>);
 
 impl<'a> Fields<'a> {
-    pub fn text(&mut self) -> Option<&'a str> {
+    pub fn field(&mut self) -> Option<&'a Field> {
         self.0.next()
     }
 
     pub fn number(&mut self) -> Option<usize> {
-        self.text()?.parse().ok()
+        match self.field()? {
+            Field::Number(v) => usize::try_from(*v).ok(),
+            _ => None,
+        }
     }
 
     pub fn word(&mut self) -> Option<u64> {
-        u64::from_str_radix(self.text()?, 16).ok()
+        match self.field()? {
+            Field::Word(v) => Some(*v),
+            _ => None,
+        }
     }
 
-    pub fn words(&mut self) -> Option<Vec<u64>> {
-        list(self.text()?, |s| u64::from_str_radix(s, 16).ok())
+    pub fn words(&mut self) -> Option<&'a [u64]> {
+        match self.field()? {
+            Field::Words(v) => Some(v),
+            _ => None,
+        }
     }
 
-    pub fn numbers<T: std::str::FromStr>(&mut self) -> Option<Vec<T>> {
-        list(self.text()?, |s| s.parse().ok())
+    /// A list of rows or of columns.
+    pub fn places(&mut self) -> Option<Vec<usize>> {
+        match self.field()? {
+            Field::Shorts(v) | Field::Pairs(v) => Some(v.iter().map(|place| *place as usize).collect()),
+            _ => None,
+        }
     }
 
-    /// A log, its units with commas or its entries as `target:source`.
+    pub fn ints(&mut self) -> Option<&'a [i32]> {
+        match self.field()? {
+            Field::Ints(v) => Some(v),
+            _ => None,
+        }
+    }
+
+    pub fn pauli(&mut self) -> Option<PauliMatrix> {
+        match self.field()? {
+            Field::Letter('I') => Some(PauliMatrix::I),
+            Field::Letter('X') => Some(PauliMatrix::X),
+            Field::Letter('Y') => Some(PauliMatrix::Y),
+            Field::Letter('Z') => Some(PauliMatrix::Z),
+            _ => None,
+        }
+    }
+
+    pub fn gate(&mut self) -> Option<clifford::Gate> {
+        match self.field()? {
+            Field::Gate(Gate::H(q)) => Some(clifford::h(*q as usize)),
+            Field::Gate(Gate::S(q)) => Some(clifford::s(*q as usize)),
+            Field::Gate(Gate::CX(control, target)) => clifford::cx(*control as usize, *target as usize),
+            _ => None,
+        }
+    }
+
+    /// The entries of a log.
     pub fn log(&mut self) -> Option<Vec<(usize, usize)>> {
-        let units: Vec<usize> = list(&self.text()?.replace(':', ","), |s| s.parse().ok())?;
-        Some(units.chunks(2).map(|pair| (pair[0], pair[1])).collect())
+        Some(self.places()?.chunks(2).map(|pair| (pair[0], pair[1])).collect())
     }
 
     /// The fields X Z P as m rows with phases. A phase word holds those of 32 rows.
     pub fn set(&mut self, n: usize, m: usize) -> Option<Terms<ComplexSign>> {
-        let x = self.words()?;
-        let z = self.words()?;
-        let words = self.words()?;
+        let (x, z, words) = (self.words()?, self.words()?, self.words()?);
         let mut coeffs = ComplexSignVec::default();
         (0..m).for_each(|r| coeffs.push(ComplexSign((words[r / 32] >> (2 * (r % 32)) & 3) as u8)));
-        Some(Terms::from((rows(n, m, &x, &z), coeffs)))
+        Some(Terms::from((rows(n, m, x, z), coeffs)))
     }
-}
-
-fn list<T>(text: &str, one: impl Fn(&str) -> Option<T>) -> Option<Vec<T>> {
-    if text == "-" {
-        return Some(vec![]);
-    }
-    text.split(',').map(one).collect()
 }
 
 /// Rows of n qubits with these words.
@@ -67,16 +99,6 @@ pub fn rows(n: usize, m: usize, x: &[u64], z: &[u64]) -> CmpntList {
         row.get_z_part_slice_mut().copy_from_slice(&z[i * w..(i + 1) * w]);
     }
     out
-}
-
-pub fn pauli(text: &str) -> Option<PauliMatrix> {
-    match text {
-        "I" => Some(PauliMatrix::I),
-        "X" => Some(PauliMatrix::X),
-        "Y" => Some(PauliMatrix::Y),
-        "Z" => Some(PauliMatrix::Z),
-        _ => None,
-    }
 }
 
 /// Column c of n qubits as the Rust names it.

@@ -19,8 +19,8 @@ use oracle::qubit::pauli::cmpnt_major::terms::{AsViewMut, Terms};
 use oracle::qubit::pauli::springs::Springs;
 use oracle::qubit::traits::{PauliWordMutRef, QubitsRelabel};
 
-use crate::answers::answer;
-use crate::fields::{log_text, phases_text, rows, rows_text, set_text};
+use oracle::answers::answer;
+use oracle::fields::{log_text, phases_text, rows, rows_text, set_text};
 
 use SymplecticPart::{X, Z};
 

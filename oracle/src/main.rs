@@ -4,12 +4,12 @@
 //! line it has no answer for gets `-`, one that stops the Rust gets `panic`. With `--findings` it prints the evidence
 //! for docs/DIFFERENCES.md instead.
 
-mod answers;
-mod fields;
 mod findings;
 
 use std::io::{BufRead, Write};
 use std::panic::{catch_unwind, set_hook};
+
+use oracle::answers;
 
 fn main() {
     // A stopped call is an answer; its message would only clutter the run.

@@ -1,6 +1,6 @@
 //! The lines of docs/CALLS.md, read and written by one table of calls.
 
-use crate::gates::{self, Gate};
+use crate::gate::{self, Gate};
 use crate::limits::{
     LINE, LINE_LIST, LINE_LOG, LINE_PHASES, LINE_ROWS, LINE_TERMS, LINE_TEXT, LINE_VECTORS, LINE_WORDS,
 };
@@ -144,7 +144,7 @@ pub fn parsed(line: &str) -> Option<Case> {
         fields.push(match kind {
             // behind one space; where not even the space stands there, the empty text
             'R' => Field::Text(parts.next().unwrap_or("").as_bytes().to_vec()),
-            'C' => Field::Gate(gates::parsed(&mut parts, |text| decimal(text, u64::MAX))?),
+            'C' => Field::Gate(gate::parsed(&mut parts, |text| decimal(text, u64::MAX))?),
             _ => field(kind, parts.next()?)?,
         });
     }
