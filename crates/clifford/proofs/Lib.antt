@@ -1,4 +1,4 @@
-pub mod Images
+pub mod Signs
 pub mod Tests
 pub mod Rows
 pub mod Loop

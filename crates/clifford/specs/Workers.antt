@@ -1,15 +1,17 @@
 -- What the private functions ask and leave: a set and a gate that passed their tests, one row changed. Assumes nothing.
 use mathlib.Core.Path.{_≡_}
-use mathlib.Core.Bool.{Bool, cond, not, _&&_}
-use Prim.Native.Nat.{ℕ, _+_, _%_, _<_}
-use lib.ListN.{set}
-use Rattle.pauli.specs.Pauli.{Pauli, ofBits, hasX, hasZ}
+use mathlib.Core.Bool.{Bool, false, cond, not, _&&_}
+use mathlib.Core.List.{List}
+use Prim.Native.Nat.{ℕ, _+_, _/_, _%_, _<_}
+use lib.ListN.{getD, set}
+use Rattle.pauli.specs.declared.PauliMatrix.the-variants.{I}
 use Rattle.pauli.specs.Row.{Row}
 use Rattle.encoding.specs.Set.{Mem, count, rowsOf, lay, Sound}
 use Rattle.gates.specs.Places.{Places}
 use Rattle.gates.specs.Gates.{touched, differ}
 use Rattle.gates.specs.declared.Gate.{Gate}
-use Rattle.one_qubit.specs.Leaves.{withPauli, atRow}
+use Rattle.encoding.specs.Words.{bitAt}
+use Rattle.one_qubit.specs.Leaves.{turnedPauli, atRow}
 
 -- no line of the table fits
 pub record Ready (n : ℕ) (g : Gate) (M : Mem) : Type 0 where
@@ -31,20 +33,14 @@ pub record QubitReady (n r q : ℕ) (M : Mem) : Type 0 where
 abbrev pub Changed : ℕ → ℕ → (Row → Row) → Mem → Mem → Type 0
 Changed n r f M M′ = M′ ≡ lay n (count M) (atRow (rowsOf n M) r f)
 
--- the row with the Pauli p at qubit q, its sign turned or not
-abbrev pub turnedWith : ℕ → Pauli → Bool → Row → Row
-turnedWith q p b x = record { ps = set (x .ps) q p; p = (x .p + cond b 2 0) % 4 }
+-- bit q of a run of words, 64 to a word
+abbrev pub bitIn : List ℕ → ℕ → Bool
+bitIn xs q = bitAt xs (q / 64) (q % 64)
 
--- ---- controlled-X, where p is at the control and q at the target
+-- the row with its bits at qubit q turned where a and b hold, and its sign where s does
+abbrev pub turnedBy : ℕ → Bool → Bool → Bool → Row → Row
+turnedBy q a b s x = record { ps = set (x .ps) q (turnedPauli (getD (x .ps) q I) a b); p = (x .p + cond s 2 0) % 4 }
 
-abbrev pub controlImage : Pauli → Pauli → Pauli
-controlImage p q = ofBits (hasX p) (differ (hasZ p) (hasZ q))
-
-abbrev pub targetImage : Pauli → Pauli → Pauli
-targetImage p q = ofBits (differ (hasX q) (hasX p)) (hasZ q)
-
-abbrev pub cxTurns : Pauli → Pauli → Bool
-cxTurns p q = hasX p && (hasZ q && not (differ (hasX q) (hasZ p)))
-
-abbrev pub withBoth : ℕ → ℕ → Pauli → Pauli → Row → Row
-withBoth c t p q x = turnedWith c (controlImage p q) (cxTurns p q) (withPauli t (targetImage p q) x)
+-- controlled-X, where cx and cz are the bits at the control and tx and tz those at the target
+abbrev pub turnedBoth : ℕ → ℕ → Bool → Bool → Bool → Bool → Row → Row
+turnedBoth c t cx cz tx tz x = turnedBy c false tz (cx && (tz && not (differ tx cz))) (turnedBy t cx false false x)

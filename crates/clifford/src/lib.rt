@@ -1,17 +1,16 @@
 // Clifford gates above the row set: one call, which conjugates every row of a set in place. The set is reached through its tests and its leaves alone.
 ghost use mathlib.Core.Path.{_≡_};
-ghost use mathlib.Core.Bool.{cond, true, not, _&&_};
-ghost use Rattle.pauli.specs.Pauli.{ofBits, hasX, hasZ};
+ghost use Prim.Native.Nat.{_≤_, _<_};
+ghost use Rattle.encoding.specs.Limits.{maxQubits, maxRows};
 ghost use Rattle.encoding.specs.Set.{rowsOf, lay};
 ghost use Rattle.encoding.specs.Lent.{lent, before, after};
-ghost use Rattle.gates.specs.Gates.{differ, conjRow, conjRows};
+ghost use Rattle.gates.specs.Gates.{conjRow, conjRows};
 ghost use Rattle.gates.specs.declared.Gate.the-variants as gate;
 ghost use Rattle.clifford.specs.Calls.{largeQubit, oneQubit, gateFault, Conjugates};
-ghost use Rattle.clifford.specs.Workers.{Ready, RowReady, QubitReady, Changed, turnedWith, controlImage, targetImage, cxTurns, withBoth};
+ghost use Rattle.one_qubit.specs.Leaves.{placeOf};
+ghost use Rattle.clifford.specs.Workers.{Ready, RowReady, QubitReady, Changed, bitIn, turnedBy, turnedBoth};
 use encoding::Answer;
 use gates::Gate;
-use pauli::ComplexSign;
-use pauli::PauliMatrix;
 use pauli::QubitNumber;
 use pauli::RowNumber;
 
@@ -53,122 +52,34 @@ fn gate_fault(n: usize, m: usize, x: &[u64], z: &[u64], phases: &[u64], g: Gate)
     )
 }
 
-// What H makes of a Pauli, and S.
-fn h_image(p: PauliMatrix) -> PauliMatrix
-    ensures { λ r. ⌜ r ≡ ofBits (hasZ p) (hasX p) ⌝ }
+// The two bits of a Pauli.
+struct Bits {
+    x: bool,
+    z: bool,
+}
+
+// Where qubit q of row r stands among the bits of all words, 64 to a word.
+fn place(n: usize, r: usize, q: usize) -> usize
+    requires { ⌜ (n ≤ maxQubits) × (r < maxRows) × (q < n) ⌝ }
+    ensures { λ k. ⌜ k ≡ placeOf n r q ⌝ }
 {
-    match p {
-        PauliMatrix::I => PauliMatrix::I,
-        PauliMatrix::X => PauliMatrix::Z,
-        PauliMatrix::Y => PauliMatrix::Y,
-        PauliMatrix::Z => PauliMatrix::X,
+    r * encoding::words(n) * 64 + q
+}
+
+// The bits at qubit q of row r.
+fn read(n: usize, x: &[u64], z: &[u64], r: RowNumber, q: QubitNumber) -> Bits
+    requires { ⌜ (n ≤ maxQubits) × (r .0 < maxRows) × (q .0 < n) ⌝ }
+    ensures { λ b. ⌜ (b .x ≡ bitIn (now (x .entry)) (placeOf n (r .0) (q .0))) × (b .z ≡ bitIn (now (z .entry)) (placeOf n (r .0) (q .0))) ⌝ }
+{
+    let k = place(n, r.0, q.0);
+    Bits {
+        x: encoding::bit_in(x, k),
+        z: encoding::bit_in(z, k),
     }
 }
 
-fn s_image(p: PauliMatrix) -> PauliMatrix
-    ensures { λ r. ⌜ r ≡ ofBits (hasX p) (differ (hasZ p) (hasX p)) ⌝ }
-{
-    match p {
-        PauliMatrix::I => PauliMatrix::I,
-        PauliMatrix::X => PauliMatrix::Y,
-        PauliMatrix::Y => PauliMatrix::X,
-        PauliMatrix::Z => PauliMatrix::Z,
-    }
-}
-
-// Whether they turn the sign.
-fn is_y(p: PauliMatrix) -> bool
-    ensures { λ b. ⌜ b ≡ (hasX p && hasZ p) ⌝ }
-{
-    match p {
-        PauliMatrix::I => false,
-        PauliMatrix::X => false,
-        PauliMatrix::Y => true,
-        PauliMatrix::Z => false,
-    }
-}
-
-// The Pauli with its z turned, and with its x turned.
-fn other_z(p: PauliMatrix) -> PauliMatrix
-    ensures { λ r. ⌜ r ≡ ofBits (hasX p) (differ (hasZ p) true) ⌝ }
-{
-    match p {
-        PauliMatrix::I => PauliMatrix::Z,
-        PauliMatrix::X => PauliMatrix::Y,
-        PauliMatrix::Y => PauliMatrix::X,
-        PauliMatrix::Z => PauliMatrix::I,
-    }
-}
-
-fn other_x(p: PauliMatrix) -> PauliMatrix
-    ensures { λ r. ⌜ r ≡ ofBits (differ (hasX p) true) (hasZ p) ⌝ }
-{
-    match p {
-        PauliMatrix::I => PauliMatrix::X,
-        PauliMatrix::X => PauliMatrix::I,
-        PauliMatrix::Y => PauliMatrix::Z,
-        PauliMatrix::Z => PauliMatrix::Y,
-    }
-}
-
-// What controlled-X makes of p at the control where q is at the target, and of q.
-fn control_image(p: PauliMatrix, q: PauliMatrix) -> PauliMatrix
-    ensures { λ r. ⌜ r ≡ controlImage p q ⌝ }
-{
-    match q {
-        PauliMatrix::I => p,
-        PauliMatrix::X => p,
-        PauliMatrix::Y => other_z(p),
-        PauliMatrix::Z => other_z(p),
-    }
-}
-
-fn target_image(p: PauliMatrix, q: PauliMatrix) -> PauliMatrix
-    ensures { λ r. ⌜ r ≡ targetImage p q ⌝ }
-{
-    match p {
-        PauliMatrix::I => q,
-        PauliMatrix::X => other_x(q),
-        PauliMatrix::Y => other_x(q),
-        PauliMatrix::Z => q,
-    }
-}
-
-fn is_z(p: PauliMatrix) -> bool
-    ensures { λ b. ⌜ b ≡ (not (hasX p) && hasZ p) ⌝ }
-{
-    match p {
-        PauliMatrix::I => false,
-        PauliMatrix::X => false,
-        PauliMatrix::Y => false,
-        PauliMatrix::Z => true,
-    }
-}
-
-// Whether it turns the sign: of X at the control and Z at the target, and of Y at both.
-fn cx_turns(p: PauliMatrix, q: PauliMatrix) -> bool
-    ensures { λ b. ⌜ b ≡ cxTurns p q ⌝ }
-{
-    match p {
-        PauliMatrix::I => false,
-        PauliMatrix::X => is_z(q),
-        PauliMatrix::Y => is_y(q),
-        PauliMatrix::Z => false,
-    }
-}
-
-// The exponent of a turned sign.
-fn sign(turns: bool) -> ComplexSign
-    ensures { λ e. ⌜ e .0 ≡ cond turns 2 0 ⌝ }
-{
-    if turns {
-        return ComplexSign(2);
-    }
-    ComplexSign(0)
-}
-
-// Qubit q of row r becomes a Pauli, and the row's sign turns or not.
-fn set_turned(
+// At qubit q of row r the bits turn where `by` has them, and the row's sign turns where `sign` holds: the higher of its phase's two bits.
+fn turn(
     n: usize,
     m: usize,
     x: &mut [u64],
@@ -176,23 +87,20 @@ fn set_turned(
     phases: &mut [u64],
     r: RowNumber,
     q: QubitNumber,
-    p: PauliMatrix,
-    turns: bool,
+    by: Bits,
+    sign: bool,
 )
     requires { ⌜ QubitReady n (r .0) (q .0) (lent m x z phases) ⌝ }
-    ensures { λ _. ⌜ Changed n (r .0) (turnedWith (q .0) p turns) (before m x z phases)
+    ensures { λ _. ⌜ Changed n (r .0) (turnedBy (q .0) (by .x) (by .z) sign) (before m x z phases)
         (after m x z phases) ⌝ }
 {
-    one_qubit::set_pauli_unchecked(n, x, z, r, q, p);
-    let e = encoding::get_exponent(phases, r);
-    encoding::set_exponent(
-        phases,
-        r,
-        products::add_signs(e, sign(turns), ComplexSign(0)),
-    );
+    let k = place(n, r.0, q.0);
+    one_qubit::turn_bit(x, k, by.x);
+    one_qubit::turn_bit(z, k, by.z);
+    one_qubit::turn_bit(phases, 2 * r.0 + 1, sign);
 }
 
-// H on row r.
+// H on row r: where x and z differ, both turn.
 fn h_row(
     n: usize,
     m: usize,
@@ -206,11 +114,12 @@ fn h_row(
     ensures { λ _. ⌜ Changed n (r .0) (conjRow n (gate.H q)) (before m x z phases)
         (after m x z phases) ⌝ }
 {
-    let p = one_qubit::get_pauli_unchecked(n, x, z, r, q);
-    set_turned(n, m, x, z, phases, r, q, h_image(p), is_y(p));
+    let b = read(n, x, z, r, q);
+    let d = b.x ^ b.z;
+    turn(n, m, x, z, phases, r, q, Bits { x: d, z: d }, b.x & b.z);
 }
 
-// S on row r.
+// S on row r: where x is, z turns.
 fn s_row(
     n: usize,
     m: usize,
@@ -224,12 +133,23 @@ fn s_row(
     ensures { λ _. ⌜ Changed n (r .0) (conjRow n (gate.S q)) (before m x z phases)
         (after m x z phases) ⌝ }
 {
-    let p = one_qubit::get_pauli_unchecked(n, x, z, r, q);
-    set_turned(n, m, x, z, phases, r, q, s_image(p), is_y(p));
+    let b = read(n, x, z, r, q);
+    turn(
+        n,
+        m,
+        x,
+        z,
+        phases,
+        r,
+        q,
+        Bits { x: false, z: b.x },
+        b.x & b.z,
+    );
 }
 
-// Both qubits of row r become what controlled-X makes of p at the control and q at the target.
-fn set_both(
+// Controlled-X on row r, where c was read at the control and t at the target: the target's x turns where the control has one, the control's z where the
+// target has one.
+fn turn_both(
     n: usize,
     m: usize,
     x: &mut [u64],
@@ -238,15 +158,26 @@ fn set_both(
     r: RowNumber,
     control: QubitNumber,
     target: QubitNumber,
-    p: PauliMatrix,
-    q: PauliMatrix,
+    c: Bits,
+    t: Bits,
 )
     requires { ⌜ RowReady n (r .0) (gate.CX control target) (lent m x z phases) ⌝ }
-    ensures { λ _. ⌜ Changed n (r .0) (withBoth (control .0) (target .0) p q) (before m x z phases)
+    ensures { λ _. ⌜ Changed n (r .0) (turnedBoth (control .0) (target .0) (c .x) (c .z) (t .x) (t .z)) (before m x z phases)
         (after m x z phases) ⌝ }
 {
-    one_qubit::set_pauli_unchecked(n, x, z, r, target, target_image(p, q));
-    set_turned(
+    turn(
+        n,
+        m,
+        x,
+        z,
+        phases,
+        r,
+        target,
+        Bits { x: c.x, z: false },
+        false,
+    );
+    let sign = c.x & (t.z & !(t.x ^ c.z));
+    turn(
         n,
         m,
         x,
@@ -254,8 +185,8 @@ fn set_both(
         phases,
         r,
         control,
-        control_image(p, q),
-        cx_turns(p, q),
+        Bits { x: false, z: t.z },
+        sign,
     );
 }
 
@@ -274,9 +205,9 @@ fn cx_row(
     ensures { λ _. ⌜ Changed n (r .0) (conjRow n (gate.CX control target)) (before m x z phases)
         (after m x z phases) ⌝ }
 {
-    let p = one_qubit::get_pauli_unchecked(n, x, z, r, control);
-    let q = one_qubit::get_pauli_unchecked(n, x, z, r, target);
-    set_both(n, m, x, z, phases, r, control, target, p, q);
+    let c = read(n, x, z, r, control);
+    let t = read(n, x, z, r, target);
+    turn_both(n, m, x, z, phases, r, control, target, c, t);
 }
 
 // The gate on row r.

@@ -1,3 +1,3 @@
-pub mod Limits
 pub mod OneRow
+pub mod OneTurn
 pub mod View

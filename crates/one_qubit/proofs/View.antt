@@ -1,5 +1,5 @@
--- The leaves over a row set: what is read is the row's Pauli, and setting one gives the memory laid from the rows with that qubit set. A qubit is given
--- by its bits, which lie at bit q mod 64 of word r w + q div 64; a bit that is not the qubit's is the old one. Assumes nothing.
+-- The leaf over a row set: the bits read are those of the row's Pauli, and turning them gives the memory laid from the rows with that Pauli turned. A qubit
+-- is given by its bits, which lie at bit q mod 64 of word r w + q div 64; a bit that is not the qubit's is the old one. Assumes nothing.
 use mathlib.Core.Path.{_≡_, refl, sym, ap, ap₂, _∙_, subst}
 use mathlib.Core.Bool.{Bool, true, false, cond}
 use mathlib.Core.List.{List, []}
@@ -9,21 +9,21 @@ use native.Mathlib.Decide.{ℕ-discrete, decLt}
 use native.Mathlib.Omega.{arith}
 use lib.ListN.{length, getD, set, length-set}
 use lib.Seq.{getD-set-same, getD-set-other}
-use Rattle.pauli.specs.Pauli.{Pauli, ofBits, hasX, hasZ}
+use Rattle.pauli.specs.Pauli.{Pauli, hasX, hasZ}
 use Rattle.pauli.specs.declared.PauliMatrix.the-variants.{I}
 use Rattle.pauli.specs.Row.{Row}
-use Rattle.pauli.proofs.RowLaws.{both-of}
+use Rattle.pauli.proofs.RowLaws.{hasX-of, hasZ-of}
 use Rattle.encoding.specs.Limits.{wordsOf}
 use Rattle.encoding.specs.Words.{bitAt, withBit, layRows}
-use Rattle.encoding.specs.Set.{Mem, memOf, count, rowsIn, rowsOf, list, layExponents, layIn, lay, QubitSet, Sound}
+use Rattle.encoding.specs.Set.{Mem, memOf, count, rowsIn, rowsOf, list, layExponents, layIn, lay, Sound}
+use Rattle.encoding.proofs.Odd.{xorᵇ}
 use Rattle.encoding.proofs.BitLaws.{lay-of, bit-lay}
 use Rattle.encoding.proofs.Exponents.{lay-alike}
 use Rattle.encoding.proofs.Memory.{mem-eq, row-count, lay-back}
 use Rattle.encoding.proofs.Parts.{row-end, length-list, getD-list}
-use Rattle.encoding.proofs.Qubits.{qubit-at, inside, bit-same, bit-other}
+use Rattle.encoding.proofs.Qubits.{bit-same, bit-other}
 use Rattle.encoding.proofs.WordLaws.{Fit}
-use Rattle.one_qubit.specs.Leaves.{inLimits, placeOf, pauliIn, PauliSet, withPauli, atRow}
-use Rattle.one_qubit.proofs.Limits.{limits-in, pauli-in}
+use Rattle.one_qubit.specs.Leaves.{withTurned, placeOf, turnedPauli, withPauli, atRow}
 use Rattle.one_qubit.proofs.OneRow.{row-here, row-other}
 
 -- ---- where the bits of a qubit lie
@@ -109,17 +109,8 @@ module _ (n : ℕ) {M : Mem} (s : Sound n M) (r q : ℕ) (hr : r < count M) (hq 
   w : ℕ
   w = wordsOf n
 
-  limits : inLimits n r q ≡ true
-  limits = limits-in n r q (s .few-qubits) (omega (arith, s .few-rows)) hq
-
   hw : q / 64 < wordsOf n
   hw = omega arith
-
-  x-in : placeOf n r q / 64 < length (M .xs)
-  x-in = omega (arith, word-of n r q, row-end r (wordsOf n) hr, s .valid .x-long, hw)
-
-  z-in : placeOf n r q / 64 < length (M .zs)
-  z-in = omega (arith, word-of n r q, row-end r (wordsOf n) hr, s .valid .z-long, hw)
 
   x-old : M .xs ≡ layRows hasX (wordsOf n) (list (count M) (λ k. rowsOf n M k .ps))
   unfolding layIn
@@ -137,42 +128,45 @@ module _ (n : ℕ) {M : Mem} (s : Sound n M) (r q : ℕ) (hr : r < count M) (hq 
   unfolding rowsIn
   row-long = row-count n (wordsOf n) (s .valid) r hr
 
-  -- what is read is the row's Pauli
-  pub pauli-view : pauliIn n (M .xs) (M .zs) r q ≡ getD (rowsOf n M r .ps) q I
-  pauli-view =
-      let p = getD (rowsOf n M r .ps) q I in
-      let at : (f : Pauli → Bool) (f0 : f I ≡ false) (xs : List ℕ) → xs ≡ layRows f (wordsOf n) (list (count M) (λ k. rowsOf n M k .ps))
-      → bitAt xs (placeOf n r q / 64) (placeOf n r q % 64) ≡ f p =
-      λ f f0 xs old.
+  here : (xs : List ℕ) (b : Bool) → set xs (placeOf n r q / 64) (withBit (getD xs (placeOf n r q / 64) 0) (placeOf n r q % 64) b)
+      ≡ set xs (r * wordsOf n + q / 64) (withBit (getD xs (r * wordsOf n + q / 64) 0) (q % 64) b)
+  here xs b = ap₂ (λ (t k : ℕ). set xs t (withBit (getD xs t 0) k b)) (word-of n r q) (bit-of n r q)
+
+  bit-view : (f : Pauli → Bool) (f0 : f I ≡ false) (xs : List ℕ) → xs ≡ layRows f (wordsOf n) (list (count M) (λ k. rowsOf n M k .ps))
+      → bitAt xs (placeOf n r q / 64) (placeOf n r q % 64) ≡ f (getD (rowsOf n M r .ps) q I)
+  bit-view f f0 xs old =
       ap₂ (bitAt xs) (word-of n r q) (bit-of n r q)
       ∙ ap (λ (l : List ℕ). bitAt l (r * wordsOf n + q / 64) (q % 64)) old
       ∙ bit-lay f I f0 (wordsOf n) (count M) (λ k. rowsOf n M k .ps) r (q / 64) (q % 64) hr hw (omega arith)
-      ∙ ap (λ (k : ℕ). f (getD (rowsOf n M r .ps) k I)) (div-add-mod' q 64) in
-      pauli-in n (M .xs) (M .zs) r q limits
-      ∙ qubit-at (M .xs) (M .zs) (placeOf n r q) x-in z-in
-      ∙ ap₂ ofBits (at hasX refl (M .xs) x-old) (at hasZ refl (M .zs) z-old)
-      ∙ both-of p
+      ∙ ap (λ (k : ℕ). f (getD (rowsOf n M r .ps) k I)) (div-add-mod' q 64)
 
-  -- setting it gives the memory laid from the rows with that qubit set
-  module _ (p : Pauli) {xs′ zs′ : List ℕ} (c : PauliSet n r q p (M .xs) (M .zs) xs′ zs′) (fx : Fit xs′) (fz : Fit zs′) where
-    set-is : QubitSet (placeOf n r q) p (M .xs) (M .zs) xs′ zs′
-    set-is = c .within limits
+  -- what is read are the bits of the row's Pauli
+  pub x-view : bitAt (M .xs) (placeOf n r q / 64) (placeOf n r q % 64) ≡ hasX (getD (rowsOf n M r .ps) q I)
+  x-view = bit-view hasX refl (M .xs) x-old
 
-    pub set-view : memOf (count M) xs′ zs′ (M .es) ≡ lay n (count M) (atRow (rowsOf n M) r (withPauli q p))
-    unfolding layIn
-    set-view =
+  pub z-view : bitAt (M .zs) (placeOf n r q / 64) (placeOf n r q % 64) ≡ hasZ (getD (rowsOf n M r .ps) q I)
+  z-view = bit-view hasZ refl (M .zs) z-old
+
+  -- turning them gives the memory laid from the rows with that Pauli turned
+  module _ (a b : Bool) {xs′ zs′ : List ℕ} (ex : xs′ ≡ withTurned (M .xs) (placeOf n r q) a) (ez : zs′ ≡ withTurned (M .zs) (placeOf n r q) b) (fx : Fit xs′) (fz : Fit zs′) where
+    p′ : Pauli
+    p′ = turnedPauli (getD (rowsOf n M r .ps) q I) a b
+
+    new : (f : Pauli → Bool) (xs : List ℕ) (t : Bool) → bitAt xs (placeOf n r q / 64) (placeOf n r q % 64) ≡ f (getD (rowsOf n M r .ps) q I) → xorᵇ (f (getD (rowsOf n M r .ps) q I)) t ≡ f p′
+        → withTurned xs (placeOf n r q) t ≡ set xs (r * wordsOf n + q / 64) (withBit (getD xs (r * wordsOf n + q / 64) 0) (q % 64) (f p′))
+    unfolding withTurned
+    new f xs t e e′ =
+        ap (λ (c : Bool). set xs (placeOf n r q / 64) (withBit (getD xs (placeOf n r q / 64) 0) (placeOf n r q % 64) c)) (ap (λ (c : Bool). xorᵇ c t) e ∙ e′) ∙ here xs (f p′)
+
+    pub turn-view : memOf (count M) xs′ zs′ (M .es) ≡ lay n (count M) (atRow (rowsOf n M) r (withPauli q (turnedPauli (getD (rowsOf n M r .ps) q I) a b)))
+    unfolding layIn p′
+    turn-view =
         let σ = rowsOf n M in
         let m = count M in
-        let here : (xs : List ℕ) (b : Bool) → set xs (placeOf n r q / 64) (withBit (getD xs (placeOf n r q / 64) 0) (placeOf n r q % 64) b)
-        ≡ set xs (r * wordsOf n + q / 64) (withBit (getD xs (r * wordsOf n + q / 64) 0) (q % 64) b) =
-        λ xs b. ap₂ (λ (t k : ℕ). set xs t (withBit (getD xs t 0) k b)) (word-of n r q) (bit-of n r q) in
-        let x-new : xs′ ≡ set (M .xs) (r * wordsOf n + q / 64) (withBit (getD (M .xs) (r * wordsOf n + q / 64) 0) (q % 64) (hasX p)) =
-        set-is .x-words ∙ ap (λ (b : Bool). cond b (set (M .xs) (placeOf n r q / 64) (withBit (getD (M .xs) (placeOf n r q / 64) 0) (placeOf n r q % 64) (hasX p))) (M .xs)) (inside (placeOf n r q) (M .xs) (M .zs) x-in z-in) ∙ here (M .xs) (hasX p) in
-        let z-new : zs′ ≡ set (M .zs) (r * wordsOf n + q / 64) (withBit (getD (M .zs) (r * wordsOf n + q / 64) 0) (q % 64) (hasZ p)) =
-        set-is .z-words ∙ ap (λ (b : Bool). cond b (set (M .zs) (placeOf n r q / 64) (withBit (getD (M .zs) (placeOf n r q / 64) 0) (placeOf n r q % 64) (hasZ p))) (M .zs)) (inside (placeOf n r q) (M .xs) (M .zs) x-in z-in) ∙ here (M .zs) (hasZ p) in
+        let p = getD (rowsOf n M r .ps) q I in
         let hl : q < length (σ r .ps) = subst (λ (k : ℕ). q < k) (sym row-long) hq in
         mem-eq
         refl
-        (words-laid (wordsOf n) m r q p hasX refl σ hr hw hl (s .valid .x-long) x-old x-new fx)
-        (words-laid (wordsOf n) m r q p hasZ refl σ hr hw hl (s .valid .z-long) z-old z-new fz)
-        (e-old ∙ same-phases m σ r q p)
+        (words-laid (wordsOf n) m r q p′ hasX refl σ hr hw hl (s .valid .x-long) x-old (ex ∙ new hasX (M .xs) a x-view (sym (hasX-of (xorᵇ (hasX p) a) (xorᵇ (hasZ p) b)))) fx)
+        (words-laid (wordsOf n) m r q p′ hasZ refl σ hr hw hl (s .valid .z-long) z-old (ez ∙ new hasZ (M .zs) b z-view (sym (hasZ-of (xorᵇ (hasX p) a) (xorᵇ (hasZ p) b)))) fz)
+        (e-old ∙ same-phases m σ r q p′)

@@ -1,35 +1,28 @@
--- RULES 3.3, 3.4 and 4.17: qubit q of row r in the words of a set of n qubits, as a leaf finds it. Assumes nothing.
-use mathlib.Core.Path.{_≡_}
-use mathlib.Core.Bool.{Bool, true, false, cond, _&&_}
+-- RULES 3.3, 3.4 and 4.17: one bit of a run of words, as a leaf finds it, and qubit q of row r in the words of a set of n qubits. Assumes nothing.
+use mathlib.Core.Bool.{Bool, cond}
 use mathlib.Core.List.{List}
-use Prim.Native.Nat.{ℕ, _+_, _*_}
-use lib.Dec.{eqb, leb, ltb}
+use Prim.Native.Nat.{ℕ, _+_, _*_, _/_, _%_}
+use lib.Dec.{eqb}
 use lib.ListN.{getD, set}
-use Rattle.pauli.specs.Pauli.{Pauli}
-use Rattle.pauli.specs.declared.PauliMatrix.the-variants.{I}
+use Rattle.pauli.specs.Pauli.{Pauli, ofBits, hasX, hasZ}
 use Rattle.pauli.specs.Row.{Row}
-use Rattle.encoding.specs.Limits.{maxQubits, maxRows, wordsOf}
-use Rattle.encoding.specs.Words.{unpack}
-use Rattle.encoding.specs.Set.{QubitSet}
+use Rattle.encoding.specs.Limits.{wordsOf}
+use Rattle.encoding.specs.Words.{bitAt, withBit}
+use Rattle.encoding.proofs.Odd.{xorᵇ}
 
-abbrev pub inLimits : ℕ → ℕ → ℕ → Bool
-inLimits n r q = leb n maxQubits && (ltb r maxRows && ltb q n)
+-- the run with its bit q, 64 to a word, turned where b holds; past its end nothing has changed
+unfoldable pub withTurned : List ℕ → ℕ → Bool → List ℕ
+withTurned xs q b = set xs (q / 64) (withBit (getD xs (q / 64) 0) (q % 64) (xorᵇ (bitAt xs (q / 64) (q % 64)) b))
 
 -- all words of a set as one run of qubits, 64 to a word and w words to a row: where qubit q of row r stands in it
 abbrev pub placeOf : ℕ → ℕ → ℕ → ℕ
 placeOf n r q = r * wordsOf n * 64 + q
 
--- past the limits, and past the shorter run, it is I
-unfoldable pub pauliIn : ℕ → List ℕ → List ℕ → ℕ → ℕ → Pauli
-pauliIn n xs zs r q = cond (inLimits n r q) (getD (unpack xs zs) (placeOf n r q) I) I
-
--- the same qubit has become the Pauli p; past the limits nothing has changed
-pub record PauliSet (n r q : ℕ) (p : Pauli) (xs zs xs′ zs′ : List ℕ) : Type 0 where
-  pub within : inLimits n r q ≡ true → QubitSet (placeOf n r q) p xs zs xs′ zs′
-  pub x-past : inLimits n r q ≡ false → xs′ ≡ xs
-  pub z-past : inLimits n r q ≡ false → zs′ ≡ zs
-
 -- ---- over rows
+
+-- the Pauli with its x turned where a holds, and its z where b does
+abbrev pub turnedPauli : Pauli → Bool → Bool → Pauli
+turnedPauli p a b = ofBits (xorᵇ (hasX p) a) (xorᵇ (hasZ p) b)
 
 -- the row with the Pauli p at qubit q
 abbrev pub withPauli : ℕ → Pauli → Row → Row
