@@ -8,7 +8,9 @@ mod c_limits;
 mod limits;
 mod ours;
 mod reducing;
+mod rest;
 mod rows;
+mod small;
 mod stack;
 mod table;
 
@@ -27,7 +29,7 @@ use oracle::qubit::state::cmpnt_list::CmpntList as StateList;
 
 use random::Random;
 use rows::{Operator, Set, States, WholeOperator};
-use table::{line, side, time, FEW_RUNS, RUNS};
+use table::{asked, line, side, time, FEW_RUNS, RUNS};
 
 const QUBITS: usize = 1024;
 const TERMS: usize = 65_536;
@@ -91,11 +93,27 @@ fn times() {
     for m in [64, 256, 4096] {
         in_place(&Set::random(&mut random, QUBITS, m));
     }
-    for m in [256, 4096] {
+    for m in [64, 256, 4096] {
         gates(&Set::random(&mut random, QUBITS, m));
     }
     for m in [64, 256, 4096] {
         reducing::reduction(&Set::random(&mut random, QUBITS, m));
+    }
+    reducing::reduction(&Set::random(&mut random, 2 * QUBITS, 4096));
+    for m in [256, 4096] {
+        reducing::with_lists(&Set::random(&mut random, QUBITS, m));
+    }
+    for m in [64, 256] {
+        small::undo(&Set::random(&mut random, QUBITS, m));
+    }
+    for m in [64, 4096] {
+        let set = Set::random(&mut random, QUBITS, m);
+        small::reading(&set);
+        small::setting(&set);
+        small::acting(&set);
+    }
+    for m in [64, 1024] {
+        small::central(&Set::random(&mut random, QUBITS, m));
     }
     element(&mut random, 64, 16);
     for block in [TERMS, 16] {
@@ -162,6 +180,9 @@ fn runs(m: usize) -> usize {
 
 fn matrix(set: &Set) {
     let name = "compatibility_matrix";
+    if !asked(name) {
+        return;
+    }
     let m = set.m;
     let rust = set.terms().word_iters;
     let mut out = vec![!0; m * m.div_ceil(64)];
@@ -190,6 +211,9 @@ fn matrix(set: &Set) {
 
 fn pairwise(left: &Set, right: &Set) {
     let name = "cmpnts_mul_pairwise";
+    if !asked(name) {
+        return;
+    }
     let m = left.m;
     let (rust_left, rust_right) = (left.terms().word_iters, right.terms().word_iters);
     let ones = |words: &[u64]| vec![!0; words.len()];
@@ -237,6 +261,9 @@ fn pairwise(left: &Set, right: &Set) {
 /// Each row times the next one, all around.
 fn in_place(set: &Set) {
     let name = "imul";
+    if !asked(name) {
+        return;
+    }
     let m = set.m;
     let (mut ours, mut rust) = (set.clone(), set.terms());
     let sweep = |set: &mut Set| (0..m).for_each(|i| assert_eq!(ours::imul(set, black_box(i), (i + 1) % m), 0));
@@ -277,6 +304,9 @@ fn gates(set: &Set) {
         ),
     ];
     for (name, gate, rust_gate) in GATES {
+        if !asked(name) {
+            continue;
+        }
         let (mut ours, mut rust) = (set.clone(), set.terms());
         let sweep = |set: &mut Set| (64..128).for_each(|q| assert_eq!(gate(set, black_box(q)), 0));
         let rust_sweep =
@@ -299,6 +329,9 @@ fn gates(set: &Set) {
 fn element(random: &mut Random, terms: usize, block: usize) {
     let name = "mat_elem_cmpnts_from_presorted";
     let op = Operator::random(random, terms, block);
+    if !asked(name) {
+        return;
+    }
     let (terms, blocks) = op.terms();
     let ket = random.word();
     let x = op.x[op.x.len() / 2];
@@ -346,6 +379,9 @@ fn element(random: &mut Random, terms: usize, block: usize) {
 fn states(random: &mut Random, vectors: usize, terms: usize, block: usize) {
     let name = "mat_elem_from_presorted";
     let op = WholeOperator::random(random, terms, block);
+    if !asked(name) {
+        return;
+    }
     let kinds = terms / block;
     let size = format!("{} pairs, {terms} terms, {block} in a block", vectors * vectors);
     let (terms, blocks) = op.terms();

@@ -69,6 +69,12 @@ fn numbers() -> Option<String> {
     std::env::var("MEASURE_NUMBERS").ok()
 }
 
+/// Whether a call is to be timed: with `--only WORD` those whose name has the word.
+pub fn asked(name: &str) -> bool {
+    let mut words = std::env::args().skip(1);
+    words.next().as_deref() != Some("--only") || words.next().is_some_and(|word| name.contains(&word))
+}
+
 /// Times all sides, turn about, and prints a line: ours, the fastest of the ways in C if there is one, and the Rust.
 pub fn line(name: &str, size: &str, runs: usize, ours: Side, rust: Side, ways: Vec<(&str, Side)>) {
     let mut sides = vec![rust, ours];
