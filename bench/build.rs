@@ -1,14 +1,9 @@
-//! Links the archive of the crate `bawersun`, libbawersun.a in the folder that BAWERSUN_ARCHIVE names, and limits.c where it can be compiled: on x86-64, for
-//! every such processor, by the system's C compiler. Without it the cfg `limits` is not set, and the bench says so.
+//! Links limits.c where it can be compiled: on x86-64, for every such processor, by the system's C compiler. Without it the cfg `limits` is not
+//! set, and the bench says so.
 
 use std::process::Command;
 
 fn main() {
-    let folder = std::env::var("BAWERSUN_ARCHIVE").expect("BAWERSUN_ARCHIVE names the folder that holds libbawersun.a");
-    println!("cargo:rustc-link-search=native={folder}");
-    println!("cargo:rustc-link-lib=static=bawersun");
-    println!("cargo:rerun-if-env-changed=BAWERSUN_ARCHIVE");
-    println!("cargo:rerun-if-changed={folder}/libbawersun.a");
     println!("cargo:rerun-if-changed=limits.c");
     println!("cargo:rustc-check-cfg=cfg(limits)");
     if std::env::var("CARGO_CFG_TARGET_ARCH").as_deref() == Ok("x86_64") {

@@ -20,7 +20,7 @@ skip_rust() {
 lay_out() {
     rm -rf "$rust/tree"
     mkdir -p "$rust/tree"
-    (cd "$here" && cp -pR Cargo.toml Cargo.lock lines compare oracle bench "$rust/tree/")
+    (cd "$here" && cp -pR Cargo.toml Cargo.lock include bindings lines compare oracle bench "$rust/tree/")
     if [ ${#config[@]} -eq 0 ]; then
         sed -i 's/, "oracle", "bench"//' "$rust/tree/Cargo.toml"
         rm -rf "$rust/tree/oracle" "$rust/tree/bench"
