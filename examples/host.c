@@ -1,6 +1,7 @@
 /*
- * A booking host in C: rows from their texts, commutation, a reduction with its log, the check of that log, the way back, and a
- * matrix element. Every answer is looked at; the last line is 'N passed, M failed', and it exits with 1 where M is not 0.
+ * A booking host in C: rows from their texts, commutation, a reduction with its log, the check of that log, the way back, the log
+ * file, written, read back, checked and undone, and a matrix element. Every answer is looked at; the last line is 'N passed, M
+ * failed', and it exits with 1 where M is not 0.
  *
  *     cc host.c $(pkg-config --cflags --libs bawersun)
  */
@@ -140,6 +141,107 @@ static void reduction(const struct set *s)
     look("the booked rows again", same(&work, s), 1);
 }
 
+/* What a host keeps on disk: a tmpfile, written and read back. */
+static size_t kept(const uint8_t *image, size_t length, uint8_t *file, size_t room)
+{
+    FILE *disk = tmpfile();
+    size_t got = 0;
+    if (disk == NULL)
+        return 0;
+    if (fwrite(image, 1, length, disk) == length) {
+        rewind(disk);
+        got = fread(file, 1, room, disk);
+    }
+    fclose(disk);
+    return got;
+}
+
+#define UNITS (2 * QUBITS + ROWS + 2 * ENTRIES)
+#define IMAGE BAWERSUN_PWL_BYTES(QUBITS, ROWS, 2 * QUBITS, ROWS, 0, ENTRIES)
+
+/* What is read from a log file: the outputs, and the numbers of its front. */
+struct run {
+    struct set start;
+    uint64_t claimed[2 * WORDS + PHASES];
+    uint16_t units[UNITS];
+    size_t n, m, order, listed, extra, entries;
+};
+
+#define OUTPUTS(r) (r)->units, UNITS, READ(&(r)->start), (r)->claimed, 2 * WORDS + PHASES
+#define FRONT(r) &(r)->n, &(r)->m, &(r)->order, &(r)->listed, &(r)->extra, &(r)->entries
+
+/* The check of a run that was read, and the way back: all that is asked stands in the file. */
+static void audit(struct run *r, const struct set *booked)
+{
+    size_t words = r->m * BAWERSUN_WORDS(r->n), phases = BAWERSUN_PHASE_WORDS(r->m), place = 99;
+    const uint16_t *listed = r->units + r->order, *extra = listed + r->listed, *log = extra + r->extra;
+    const uint64_t *cz = r->claimed + words, *cphases = cz + words;
+    struct set *s = &r->start;
+    look("check of the file", bawersun_check(r->n, r->m, s->x, words, s->z, words, s->phases, phases, r->units, r->order, listed, r->listed, extra,
+        r->extra, log, 2 * r->entries, r->claimed, words, cz, words, cphases, phases, &place), BAWERSUN_DONE);
+    look("the claimed rows", memcmp(s->x, r->claimed, sizeof s->x) == 0 && memcmp(s->z, cz, sizeof s->z) == 0, 1);
+    look("undo from the file", bawersun_undo(r->n, r->m, s->x, words, s->z, words, s->phases, phases, listed, r->listed, extra, r->extra, log,
+        2 * r->entries, &place), BAWERSUN_DONE);
+    look("the booked rows", same(s, booked), 1);
+    look("no place", place, 99);
+}
+
+/* Files that are none, and outputs that are too short: nothing is changed. */
+static void bad_files(const uint8_t *image, size_t length)
+{
+    struct run r, before;
+    uint8_t file[IMAGE + 1];
+    memset(&r, 9, sizeof r);
+    memcpy(&before, &r, sizeof r);
+    memcpy(file, image, length);
+    file[length] = 0;
+    look("no bytes", bawersun_pwl_open(NULL, 0, FRONT(&r)), BAWERSUN_NO_FILE);
+    look("a byte less", bawersun_pwl_open(file, length - 1, FRONT(&r)), BAWERSUN_SHORT_FILE);
+    look("a byte more", bawersun_pwl_read(file, length + 1, OUTPUTS(&r), FRONT(&r)), BAWERSUN_LEFT_OVER);
+    look("units for the order alone", bawersun_pwl_read(file, length, r.units, 2 * QUBITS, READ(&r.start), r.claimed, 2 * WORDS + PHASES, FRONT(&r)),
+        BAWERSUN_SHORT);
+    file[41] = 2 * QUBITS;
+    look("no column 10", bawersun_pwl_read(file, length, OUTPUTS(&r), FRONT(&r)), BAWERSUN_TOO_LARGE);
+    file[3] = 2;
+    look("version 2", bawersun_pwl_open(file, length, FRONT(&r)), BAWERSUN_OTHER_VERSION);
+    file[0] = 'p';
+    look("another mark", bawersun_pwl_read(file, length, OUTPUTS(&r), FRONT(&r)), BAWERSUN_NO_FILE);
+    look("refusals change nothing", memcmp(&r, &before, sizeof r) == 0, 1);
+}
+
+/* The log file of a reduction: written, read back, checked and undone from what was read. */
+static void log_file(const struct set *s)
+{
+    struct set done = *s;
+    struct run r;
+    uint16_t order[2 * QUBITS], listed[ROWS], log[2 * ENTRIES] = { 0 };
+    uint8_t image[IMAGE], file[IMAGE];
+    size_t entries = 99, t = 99, length = 99;
+    for (size_t c = 0; c < 2 * QUBITS; c++)
+        order[c] = (uint16_t)c;
+    for (size_t row = 0; row < ROWS; row++)
+        listed[row] = (uint16_t)row;
+    look("canonicalize_all", bawersun_canonicalize_all(QUBITS, ROWS, READ(&done), log, 2 * ENTRIES, &entries, &t), BAWERSUN_DONE);
+    memset(image, 9, sizeof image);
+    look("an odd log", bawersun_pwl_write(QUBITS, ROWS, READ(s), order, 2 * QUBITS, listed, ROWS, NULL, 0, log, 2 * entries + 1, READ(&done), image,
+        sizeof image, &length), BAWERSUN_ODD_LOG);
+    look("no room", bawersun_pwl_write(QUBITS, ROWS, READ(s), order, 2 * QUBITS, listed, ROWS, NULL, 0, log, 2 * entries, READ(&done), image, 41,
+        &length), BAWERSUN_SHORT);
+    look("refusals change nothing", length == 99 && image[0] == 9 && image[40] == 9, 1);
+    look("pwl_write", bawersun_pwl_write(QUBITS, ROWS, READ(s), order, 2 * QUBITS, listed, ROWS, NULL, 0, log, 2 * entries, READ(&done), image,
+        sizeof image, &length), BAWERSUN_DONE);
+    look("its length", length, BAWERSUN_PWL_BYTES(QUBITS, ROWS, 2 * QUBITS, ROWS, 0, entries));
+    look("kept", kept(image, length, file, sizeof file), length);
+    memset(&r, 0, sizeof r);
+    look("pwl_open", bawersun_pwl_open(file, length, FRONT(&r)), BAWERSUN_DONE);
+    look("the front", r.n == QUBITS && r.m == ROWS && r.order == 2 * QUBITS && r.listed == ROWS && r.extra == 0 && r.entries == entries, 1);
+    look("pwl_read", bawersun_pwl_read(file, length, OUTPUTS(&r), FRONT(&r)), BAWERSUN_DONE);
+    look("the starting rows", same(&r.start, s), 1);
+    look("the lists", memcmp(r.units, order, sizeof order) == 0 && memcmp(r.units + 2 * QUBITS, listed, sizeof listed) == 0, 1);
+    audit(&r, s);
+    bad_files(image, length);
+}
+
 static void products(const struct set *s)
 {
     struct set work = *s, out;
@@ -205,6 +307,7 @@ int main(void)
     qubits(&booked);
     commutation(&booked);
     reduction(&booked);
+    log_file(&booked);
     products(&booked);
     elements();
     nothing();

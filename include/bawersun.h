@@ -18,8 +18,8 @@
  *
  * A slice is a pointer and the number of its values. NULL with length 0 is an empty slice, and so is any pointer with length 0:
  * it is not read. A pointer to a single value (pauli, count, exponent, truth, clashes of imul, entries, t, place, length, real,
- * imag) is never NULL. Pointers are aligned as C aligns their types. No function keeps a pointer, allocates, or has state: calls
- * on different memory may run at the same time. No call takes more than 50 KiB of stack.
+ * imag, the six numbers of a log file's front) is never NULL. Pointers are aligned as C aligns their types. No function keeps a
+ * pointer, allocates, or has state: calls on different memory may run at the same time. No call takes more than 50 KiB of stack.
  */
 #ifndef BAWERSUN_H
 #define BAWERSUN_H
@@ -30,6 +30,9 @@
 #ifdef __cplusplus
 extern "C" {
 #endif
+
+/* The version of this header and its archive; bawersun.pc has it from here. */
+#define BAWERSUN_VERSION "0.1.0"
 
 /* The limits. */
 #define BAWERSUN_MAX_QUBITS 4096       /* n of a set */
@@ -49,6 +52,10 @@ enum bawersun_pauli { BAWERSUN_I = 0, BAWERSUN_X = 1, BAWERSUN_Y = 2, BAWERSUN_Z
 /* What comes back, in the order in which refusals are tested. */
 enum bawersun_number {
     BAWERSUN_DONE = 0,
+    BAWERSUN_NO_FILE = 17,      /* log files: the bytes do not start with the mark P W L, or end inside it */
+    BAWERSUN_OTHER_VERSION = 18, /* log files: the version is not 1, or the bytes end inside it */
+    BAWERSUN_SHORT_FILE = 19,   /* log files: fewer bytes than the front says, or the bytes end inside the front */
+    BAWERSUN_LEFT_OVER = 20,    /* log files: more bytes than the front says */
     BAWERSUN_QUBITS = 1,        /* n is above its limit; for matrix elements also 0 */
     BAWERSUN_ROWS = 2,          /* too many rows, terms or words of a state */
     BAWERSUN_LENGTHS = 3,       /* a length does not fit n, m or another length */
@@ -65,7 +72,7 @@ enum bawersun_number {
     BAWERSUN_SUM = 12,          /* a sum is not finite after some addition */
     BAWERSUN_RANGE = 16,        /* a number of the sum leaves 64 bits */
     BAWERSUN_NO_TEXT = 13,      /* the text is not that of a row of n qubits */
-    BAWERSUN_SHORT = 14,        /* the output is shorter than the text */
+    BAWERSUN_SHORT = 14,        /* the output is shorter than the text, the log file or the part of a file that goes there */
     BAWERSUN_DIFFERS = 252,     /* check: the log leads to other rows than the claimed ones */
     BAWERSUN_BAD_ENTRY = 253,   /* check, undo: an entry of the log that no reduction with these lists makes */
     BAWERSUN_NOT_REDUCED = 254, /* check: the claimed rows are not reduced */
@@ -185,6 +192,47 @@ uint8_t bawersun_check(size_t n, size_t m, uint64_t *x, size_t x_len, uint64_t *
 uint8_t bawersun_undo(size_t n, size_t m, uint64_t *x, size_t x_len, uint64_t *z, size_t z_len, uint64_t *phases,
     size_t phases_len, const uint16_t *listed, size_t listed_len, const uint16_t *extra, size_t extra_len,
     const uint16_t *log, size_t log_len, size_t *place);
+
+/* ---- log files: a run, kept as bytes
+ *
+ * A run is n and m, an order, listed and extra rows, the starting rows, a log, and the rows that it is claimed to lead to: what check
+ * is given. Its image is the bytes of a log file: a front of 41 bytes, the mark PWL, the version 1, n, m, and how many columns the
+ * order has, how many rows are listed and extra and how many entries the log has; then the parts. A run has one image, of
+ * BAWERSUN_PWL_BYTES bytes, the same on every machine. Files are opened, written and read by the caller: the calls work on bytes. */
+
+/* The bytes of a log file; order, listed and extra are lengths, and entries is half of the log's length. */
+#define BAWERSUN_PWL_BYTES(n, m, order, listed, extra, entries) \
+    ((size_t)41 + 2 * ((size_t)(order) + (size_t)(listed) + (size_t)(extra)) + 4 * (size_t)(entries) \
+        + 32 * (size_t)(m) * BAWERSUN_WORDS((size_t)(n)) + 16 * BAWERSUN_PHASE_WORDS((size_t)(m)))
+
+/* pwl_write: the image of a run. Whether its log leads to the claimed rows (c..) is not asked: that is check's to say.
+ * Lent: the starting rows, order, listed, extra, the log and the claimed rows, read, all as check has them; out.
+ * Changed: the first bytes of out and *length, their number, where 0 comes back; what out has past them stays.
+ * Refusals: 1 to 5 of the starting and of the claimed rows; 6 of order, listed and extra; 7; 15; 9; 14. */
+uint8_t bawersun_pwl_write(size_t n, size_t m, const uint64_t *x, size_t x_len, const uint64_t *z, size_t z_len,
+    const uint64_t *phases, size_t phases_len, const uint16_t *order, size_t order_len, const uint16_t *listed,
+    size_t listed_len, const uint16_t *extra, size_t extra_len, const uint16_t *log, size_t log_len,
+    const uint64_t *cx, size_t cx_len, const uint64_t *cz, size_t cz_len, const uint64_t *cphases, size_t cphases_len,
+    uint8_t *out, size_t out_len, size_t *length);
+
+/* pwl_open: the six numbers in front of a file: n, m, the columns of the order, the listed rows, the extra rows, the entries of the
+ * log. It looks at the front and at the length of the file alone, so n and m may still be above their limits.
+ * Lent: the file's bytes, read. Changed: the six numbers, where 0 comes back. Refusals: 17 to 20. */
+uint8_t bawersun_pwl_open(const uint8_t *file, size_t file_len, size_t *n, size_t *m, size_t *order, size_t *listed,
+    size_t *extra, size_t *entries);
+
+/* pwl_read: the run in a file. What is read may be handed to check as it stands: see claimed and units.
+ * Lent: the file's bytes, read; five outputs, whose old content does not matter. With the numbers that pwl_open gives they need
+ *     units      order + listed + extra + 2 * entries: order, listed rows, extra rows and the log, one behind the other
+ *     x, z       m * BAWERSUN_WORDS(n) each, and
+ *     phases     BAWERSUN_PHASE_WORDS(m): the starting rows
+ *     claimed    2 * m * BAWERSUN_WORDS(n) + BAWERSUN_PHASE_WORDS(m): the claimed rows' X, Z and phase words, one behind the other
+ * and may be longer. Changed, where 0 comes back: the first values of the outputs, and the six numbers, as by pwl_open; what an
+ * output has past its content stays.
+ * Refusals: 17 to 20; 1, 2, 4 to 7 and 15 of the run in the file, as check gives them; 14. */
+uint8_t bawersun_pwl_read(const uint8_t *file, size_t file_len, uint16_t *units, size_t units_len, uint64_t *x,
+    size_t x_len, uint64_t *z, size_t z_len, uint64_t *phases, size_t phases_len, uint64_t *claimed, size_t claimed_len,
+    size_t *n, size_t *m, size_t *order, size_t *listed, size_t *extra, size_t *entries);
 
 /* ---- the text of a row */
 

@@ -1,4 +1,6 @@
 // The door for C: every call of the library, exported under a name that begins with the crate's; thin, each under the contract of the call itself.
+mod files;
+
 ghost use mathlib.Core.Path.{_≡_};
 ghost use Prim.Native.Nat.{_%_};
 ghost use Rattle.pauli.specs.Pauli.{phases as Pauli·phases, actPhase};
