@@ -34,12 +34,14 @@
 #![deny(unsafe_code, missing_docs)]
 
 mod elements;
+mod files;
 mod refusal;
 mod rows;
 mod sys;
 mod words_of_64;
 
 pub use elements::*;
+pub use files::*;
 pub use refusal::Refusal;
 pub use rows::*;
 pub use words_of_64::*;

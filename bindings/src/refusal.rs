@@ -7,6 +7,14 @@ use std::fmt;
 #[derive(Clone, Copy, Debug, PartialEq, Eq, Hash)]
 #[non_exhaustive]
 pub enum Refusal {
+    /// Log files: the bytes do not start with the mark P W L, or end inside it.
+    NoFile,
+    /// Log files: the version is not 1, or the bytes end inside it.
+    OtherVersion,
+    /// Log files: fewer bytes than the front says, or the bytes end inside the front.
+    ShortFile,
+    /// Log files: more bytes than the front says.
+    LeftOver,
     /// n is above its limit; for matrix elements also 0.
     Qubits,
     /// Too many rows, terms or words of a state.
@@ -39,14 +47,18 @@ pub enum Refusal {
     Range,
     /// The text is not that of a row of n qubits.
     NoText,
-    /// The output is shorter than the text.
+    /// The output is shorter than the text, the log file or the part of a file that goes there.
     Short,
 }
 
 use Refusal::*;
 
 /// Every refusal with its number of RULES 9.4 and what it says, in the order in which they are tested.
-const TABLE: [(Refusal, u8, &str); 17] = [
+const TABLE: [(Refusal, u8, &str); 21] = [
+    (NoFile, 17, "the bytes are no log file"),
+    (OtherVersion, 18, "the log file is of another version"),
+    (ShortFile, 19, "the log file is shorter than it says"),
+    (LeftOver, 20, "the log file is longer than it says"),
     (Qubits, 1, "n is above its limit, or 0 for matrix elements"),
     (Rows, 2, "too many rows, terms or words of a state"),
     (Lengths, 3, "a length does not fit"),
@@ -98,5 +110,33 @@ pub(crate) fn given<T>(number: u8, answer: T) -> Result<T, Refusal> {
     match number {
         0 => Ok(answer),
         _ => Err(Refusal::of(number)),
+    }
+}
+
+#[cfg(test)]
+mod tests {
+    use super::*;
+
+    /// The numbers of an enum of the header, and the limits that it defines.
+    #[test]
+    fn the_header_has_the_same_numbers() {
+        let header = include_str!("../../include/bawersun.h");
+        let listed =
+            header.split("enum bawersun_number {").nth(1).and_then(|text| text.split('}').next()).expect("the enum");
+        let number = |line: &str| line.split(" = ").nth(1)?.split([',', ' ']).next()?.parse::<u8>().ok();
+        let numbers: Vec<u8> = listed.lines().filter_map(number).filter(|number| (1..252).contains(number)).collect();
+        assert_eq!(numbers, TABLE.map(|line| line.1));
+        let limit = |name: &str| {
+            let text = header.split(&format!("#define BAWERSUN_{name} ")).nth(1).expect("the limit");
+            text.split_whitespace().next().and_then(|word| word.parse::<usize>().ok())
+        };
+        assert_eq!(limit("MAX_QUBITS"), Some(crate::MAX_QUBITS));
+        assert_eq!(limit("MAX_ROWS"), Some(crate::MAX_ROWS));
+        assert_eq!(limit("MAX_TEXT"), Some(crate::MAX_TEXT));
+        assert_eq!(limit("MAX_TERM_QUBITS"), Some(crate::MAX_TERM_QUBITS));
+        assert_eq!(limit("MAX_TERMS"), Some(crate::MAX_TERMS));
+        assert_eq!(limit("MAX_STATES"), Some(crate::MAX_STATES));
+        let version = format!("#define BAWERSUN_VERSION \"{}\"", env!("CARGO_PKG_VERSION"));
+        assert!(header.contains(&version), "{version}");
     }
 }

@@ -67,6 +67,12 @@ exports! {
         extra: &[u16], log: &[u16], cx: &[u64], cz: &[u64], cphases: &[u64], place: &mut usize,) -> u8;
     fn bawersun_undo(n: usize, m: usize, x: &mut [u64], z: &mut [u64], phases: &mut [u64], listed: &[u16], extra: &[u16],
         log: &[u16], place: &mut usize,) -> u8;
+    fn bawersun_pwl_write(n: usize, m: usize, x: &[u64], z: &[u64], phases: &[u64], order: &[u16], listed: &[u16], extra: &[u16],
+        log: &[u16], cx: &[u64], cz: &[u64], cphases: &[u64], out: &mut [u8], length: &mut usize,) -> u8;
+    fn bawersun_pwl_open(file: &[u8], n: &mut usize, m: &mut usize, order: &mut usize, listed: &mut usize, extra: &mut usize,
+        entries: &mut usize,) -> u8;
+    fn bawersun_pwl_read(file: &[u8], units: &mut [u16], x: &mut [u64], z: &mut [u64], phases: &mut [u64], claimed: &mut [u64],
+        n: &mut usize, m: &mut usize, order: &mut usize, listed: &mut usize, extra: &mut usize, entries: &mut usize,) -> u8;
     fn bawersun_fmt_elem(n: usize, m: usize, x: &[u64], z: &[u64], phases: &[u64], row: usize, out: &mut [u8], length: &mut usize,) -> u8;
     fn bawersun_parse_elem(n: usize, m: usize, x: &mut [u64], z: &mut [u64], phases: &[u64], row: usize, text: &[u8],) -> u8;
     fn bawersun_conj_h(n: usize, m: usize, x: &mut [u64], z: &mut [u64], phases: &mut [u64], q: usize,) -> u8;
@@ -196,6 +202,29 @@ mod tests {
         );
         assert_eq!(bawersun_undo(1, 1, &mut changed, &mut [0], &mut [0], &[], &[], &[0], &mut size), 9);
         assert_eq!(bawersun_fmt_elem(1, 1, &x, &z, &phases, 0, &mut [0], &mut size), 14);
+        assert_eq!(
+            bawersun_pwl_write(1, 1, &x, &z, &phases, &[], &[], &[], &[], &x, &z, &phases, &mut [0; 9], &mut size),
+            14
+        );
+        let mut front = [77; 6];
+        let [n, m, order, listed, extra, entries] = &mut front;
+        assert_eq!(bawersun_pwl_open(b"PWL", n, m, order, listed, extra, entries), 18);
+        let (mut units, mut claimed) = ([7], [7]);
+        let read = bawersun_pwl_read(
+            b"PWL\x01",
+            &mut units,
+            &mut changed,
+            &mut [0],
+            &mut [0],
+            &mut claimed,
+            n,
+            m,
+            order,
+            listed,
+            extra,
+            entries,
+        );
+        assert_eq!((read, front, units, claimed), (18, [77; 6], [7], [7]));
         let (mut re, mut im, mut real, mut imag) = (7.5, 7.5, 77, 77);
         assert_eq!(bawersun_mat_elem_cmpnts_from_presorted(1, &[0], &[0], &[1.0], &[0.0], 0, 1, &mut re, &mut im), 255);
         assert_eq!(

@@ -134,6 +134,15 @@ pub fn parsed(line: &str) -> Option<Case> {
     if line.len() >= LINE {
         return None;
     }
+    read(line, true)
+}
+
+/// The case of a line that may be longer than `calls` takes them, and its lists too: sets at both limits have such lines.
+pub fn parsed_of_any_length(line: &str) -> Option<Case> {
+    read(line, false)
+}
+
+fn read(line: &str, bounded: bool) -> Option<Case> {
     let name = line.split(' ').next()?;
     let (call, kinds) = CALLS.iter().find(|c| c.0 == name)?;
     // the rest of a line is one part, whatever spaces it has
@@ -145,7 +154,7 @@ pub fn parsed(line: &str) -> Option<Case> {
             // behind one space; where not even the space stands there, the empty text
             'R' => Field::Text(parts.next().unwrap_or("").as_bytes().to_vec()),
             'C' => Field::Gate(gate::parsed(&mut parts, |text| decimal(text, u64::MAX))?),
-            _ => field(kind, parts.next()?)?,
+            _ => field(kind, parts.next()?, bounded)?,
         });
     }
     if parts.next().is_some() {
@@ -159,25 +168,26 @@ pub fn kinds_of(call: &str) -> std::str::Chars<'static> {
     CALLS.iter().find(|c| c.0 == call).expect("a call of the table").1.chars()
 }
 
-fn field(kind: char, text: &str) -> Option<Field> {
+fn field(kind: char, text: &str, bounded: bool) -> Option<Field> {
+    let most = |room: usize| if bounded { room } else { usize::MAX };
     Some(match kind {
         'n' => Field::Number(decimal(text, u64::MAX)?),
         'w' => Field::Word(hex(text)?),
-        'W' => Field::Words(list(text, LINE_WORDS, hex)?),
-        'P' => Field::Words(list(text, LINE_PHASES, hex)?),
-        'S' => Field::Shorts(list(text, LINE_LIST, short)?),
-        'G' if text.contains(':') => Field::Pairs(list(text, LINE_LOG / 2, pair)?.concat()),
-        'G' => Field::Shorts(list(text, LINE_LOG, short)?),
-        'V' => Field::Words(list(text, LINE_TERMS, hex)?),
-        'I' => Field::Ints(list(text, LINE_TERMS, int)?),
-        'K' => Field::Words(list(text, LINE_VECTORS, hex)?),
-        'k' => Field::Ints(list(text, LINE_VECTORS, int)?),
+        'W' => Field::Words(list(text, most(LINE_WORDS), hex)?),
+        'P' => Field::Words(list(text, most(LINE_PHASES), hex)?),
+        'S' => Field::Shorts(list(text, most(LINE_LIST), short)?),
+        'G' if text.contains(':') => Field::Pairs(list(text, most(LINE_LOG) / 2, pair)?.concat()),
+        'G' => Field::Shorts(list(text, most(LINE_LOG), short)?),
+        'V' => Field::Words(list(text, most(LINE_TERMS), hex)?),
+        'I' => Field::Ints(list(text, most(LINE_TERMS), int)?),
+        'K' => Field::Words(list(text, most(LINE_VECTORS), hex)?),
+        'k' => Field::Ints(list(text, most(LINE_VECTORS), int)?),
         'L' => Field::Letter(letter(text)?),
-        'o' => Field::Number(decimal(text, LINE_WORDS as u64)?),
-        'u' => Field::Number(decimal(text, LINE_LOG as u64)?),
-        't' => Field::Number(decimal(text, LINE_TEXT as u64)?),
-        'H' => Field::TextBytes(list(text, LINE_TEXT, byte)?),
-        _ => Field::Lengths(lengths(text)?),
+        'o' => Field::Number(decimal(text, most(LINE_WORDS) as u64)?),
+        'u' => Field::Number(decimal(text, most(LINE_LOG) as u64)?),
+        't' => Field::Number(decimal(text, most(LINE_TEXT) as u64)?),
+        'H' => Field::TextBytes(list(text, most(LINE_TEXT), byte)?),
+        _ => Field::Lengths(lengths(text, bounded)?),
     })
 }
 
@@ -206,10 +216,11 @@ fn list<T>(text: &str, most: usize, one: impl Fn(&str) -> Option<T>) -> Option<V
 }
 
 /// X words, Z words, phase words and numbers of a set to be written.
-fn lengths(text: &str) -> Option<[u64; 4]> {
+fn lengths(text: &str, bounded: bool) -> Option<[u64; 4]> {
     let lengths: [u64; 4] = list(text, 4, |s| decimal(s, u64::MAX))?.try_into().ok()?;
     let most = [LINE_WORDS, LINE_WORDS, LINE_PHASES, LINE_ROWS];
-    lengths.iter().zip(most).all(|(length, most)| *length <= most as u64).then_some(lengths)
+    let fit = lengths.iter().zip(most).all(|(length, most)| *length <= most as u64);
+    (fit || !bounded).then_some(lengths)
 }
 
 /// A decimal number of 1 to 20 digits and at most `top`.

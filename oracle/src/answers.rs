@@ -2,7 +2,7 @@
 
 use std::collections::HashMap;
 
-use lines::line::{parsed, Case};
+use lines::line::parsed_of_any_length;
 use num_complex::Complex64;
 use oracle::container::bit_matrix::AsBitMatrix;
 use oracle::container::coeffs::complex_sign::{ComplexSign, ComplexSignVec};
@@ -22,12 +22,9 @@ use crate::fields::*;
 
 type Set = Terms<ComplexSign>;
 
-/// The answer to a line, or nothing where there is none.
+/// The answer to a line, or nothing where there is none. The Rust has no limits, so the line has none.
 pub fn answer(line: &str) -> Option<String> {
-    answer_to(&parsed(line)?)
-}
-
-pub fn answer_to(case: &Case) -> Option<String> {
+    let case = parsed_of_any_length(line)?;
     let f = &mut Fields(case.fields.iter());
     match case.call {
         "phase1" => phase1(f),
