@@ -59,11 +59,6 @@ fn number(a: Answer) -> u8
     }
 }
 
-struct Byte {
-    number: u8,
-    value: u8,
-}
-
 // ---- Paulis
 
 fn pauli_of(k: u8) -> PauliMatrix
@@ -103,19 +98,16 @@ fn row_for(pauli: u8, m: usize, row: usize) -> usize
     row
 }
 
-// What is seen of a qubit that is read, with the number that stays where there is none.
-fn read(a: Got, pauli: u8) -> Byte
-    ensures { λ r. ⌜ (r .number ≡ gotNumber a) × (r .value ≡ pauliOr pauli a) ⌝ }
+// What is seen of a qubit that is read: where there is no answer, the number stays.
+fn read(a: Got, pauli: &mut u8) -> u8
+    ensures { λ r. ⌜ Gives gotNumber pauliOr (now (pauli .entry)) (now (pauli .exit)) r a ⌝ }
 {
     match a {
-        Got::Is(p) => Byte {
-            number: 0,
-            value: pauli_number(p),
-        },
-        Got::Refused(k) => Byte {
-            number: k,
-            value: pauli,
-        },
+        Got::Is(p) => {
+            *pauli = pauli_number(p);
+            0
+        }
+        Got::Refused(k) => k,
     }
 }
 
@@ -134,9 +126,7 @@ pub extern "C" fn bawersun_get_qubit(
         (Gives gotNumber pauliOr (now (pauli .entry)) (now (pauli .exit)) r) ⌝ }
 {
     let a = cmpnt_list::get_qubit(n, m, x, z, phases, RowNumber(row), QubitNumber(qubit));
-    let s = read(a, *pauli);
-    *pauli = s.value;
-    s.number
+    read(a, pauli)
 }
 
 #[no_mangle]
@@ -157,24 +147,16 @@ pub extern "C" fn bawersun_set_qubit(
     number(cmpnt_list::set_qubit(n, m, x, z, phases, RowNumber(k), QubitNumber(qubit), p))
 }
 
-struct Long {
-    number: u8,
-    value: u64,
-}
-
-// What is seen of a count, with the number that stays where there is none.
-fn tallied(a: Tally, count: u64) -> Long
-    ensures { λ r. ⌜ (r .number ≡ tallyNumber a) × (r .value ≡ countOr count a) ⌝ }
+// What is seen of a count.
+fn tallied(a: Tally, count: &mut u64) -> u8
+    ensures { λ r. ⌜ Gives tallyNumber countOr (now (count .entry)) (now (count .exit)) r a ⌝ }
 {
     match a {
-        Tally::Number(c) => Long {
-            number: 0,
-            value: c,
-        },
-        Tally::Refused(k) => Long {
-            number: k,
-            value: count,
-        },
+        Tally::Number(c) => {
+            *count = c;
+            0
+        }
+        Tally::Refused(k) => k,
     }
 }
 
@@ -194,9 +176,7 @@ pub extern "C" fn bawersun_count(
 {
     let k = row_for(pauli, m, row);
     let a = cmpnt_list::count(n, m, x, z, phases, RowNumber(k), pauli_of(pauli));
-    let s = tallied(a, *count);
-    *count = s.value;
-    s.number
+    tallied(a, count)
 }
 
 // ---- questions of rows
@@ -207,19 +187,16 @@ fn truth_bit(b: bool) -> u8
     if b { 1 } else { 0 }
 }
 
-// What is seen of a question, with the number that stays where there is no answer.
-fn answered(a: Truth, truth: u8) -> Byte
-    ensures { λ r. ⌜ (r .number ≡ truthNumber a) × (r .value ≡ truthOr truth a) ⌝ }
+// What is seen of a question.
+fn answered(a: Truth, truth: &mut u8) -> u8
+    ensures { λ r. ⌜ Gives truthNumber truthOr (now (truth .entry)) (now (truth .exit)) r a ⌝ }
 {
     match a {
-        Truth::Is(b) => Byte {
-            number: 0,
-            value: truth_bit(b),
-        },
-        Truth::Refused(k) => Byte {
-            number: k,
-            value: truth,
-        },
+        Truth::Is(b) => {
+            *truth = truth_bit(b);
+            0
+        }
+        Truth::Refused(k) => k,
     }
 }
 
@@ -238,9 +215,7 @@ pub extern "C" fn bawersun_commutes_with(
         (Gives truthNumber truthOr (now (truth .entry)) (now (truth .exit)) r) ⌝ }
 {
     let t = cmpnt_list::commutes_with(n, m, x, z, phases, RowNumber(a), RowNumber(b));
-    let s = answered(t, *truth);
-    *truth = s.value;
-    s.number
+    answered(t, truth)
 }
 
 #[no_mangle]
@@ -257,9 +232,7 @@ pub extern "C" fn bawersun_belongs_to_centralizer(
         (Gives truthNumber truthOr (now (truth .entry)) (now (truth .exit)) r) ⌝ }
 {
     let t = cmpnt_list::belongs_to_centralizer(n, m, x, z, phases, RowNumber(row));
-    let s = answered(t, *truth);
-    *truth = s.value;
-    s.number
+    answered(t, truth)
 }
 
 #[no_mangle]
@@ -297,19 +270,16 @@ pub extern "C" fn bawersun_cmpnts_mul_pairwise(
     number(cmpnt_list::cmpnts_mul_pairwise(n, m, lx, lz, lp, rx, rz, rp, ox, oz, op, clashes))
 }
 
-// What is seen of the exponent of a product or an action, with the one that stays where there is none.
-fn phased(a: Phase, exponent: u8) -> Byte
-    ensures { λ r. ⌜ (r .number ≡ phaseNumber a) × (r .value ≡ exponentOr exponent a) ⌝ }
+// What is seen of the exponent of a product or an action.
+fn phased(a: Phase, exponent: &mut u8) -> u8
+    ensures { λ r. ⌜ Gives phaseNumber exponentOr (now (exponent .entry)) (now (exponent .exit)) r a ⌝ }
 {
     match a {
-        Phase::Exponent(e) => Byte {
-            number: 0,
-            value: e.0,
-        },
-        Phase::Refused(k) => Byte {
-            number: k,
-            value: exponent,
-        },
+        Phase::Exponent(e) => {
+            *exponent = e.0;
+            0
+        }
+        Phase::Refused(k) => k,
     }
 }
 
@@ -328,9 +298,7 @@ pub extern "C" fn bawersun_phase_of_mul(
         (Gives phaseNumber exponentOr (now (exponent .entry)) (now (exponent .exit)) r) ⌝ }
 {
     let e = cmpnt_list::phase_of_mul(n, m, x, z, phases, RowNumber(a), RowNumber(b));
-    let s = phased(e, *exponent);
-    *exponent = s.value;
-    s.number
+    phased(e, exponent)
 }
 
 #[no_mangle]
@@ -348,9 +316,7 @@ pub extern "C" fn bawersun_phase_of_mul_by_table(
         (Gives phaseNumber exponentOr (now (exponent .entry)) (now (exponent .exit)) r) ⌝ }
 {
     let e = cmpnt_list::phase_of_mul_by_table(n, m, x, z, phases, RowNumber(a), RowNumber(b));
-    let s = phased(e, *exponent);
-    *exponent = s.value;
-    s.number
+    phased(e, exponent)
 }
 
 #[no_mangle]
@@ -368,26 +334,19 @@ pub extern "C" fn bawersun_imul_state(
         (Gives phaseNumber exponentOr (now (exponent .entry)) (now (exponent .exit)) r) ⌝ }
 {
     let e = cmpnt_list::imul_state(n, m, x, z, phases, RowNumber(row), state);
-    let s = phased(e, *exponent);
-    *exponent = s.value;
-    s.number
+    phased(e, exponent)
 }
 
-struct Product {
-    number: u8,
-    clashes: u16,
-}
-
-// What is seen of a product in place, with the number of clashes that stays where it gives none.
-fn multiplied(a: Clashes, clashes: u16) -> Product
-    ensures { λ r. ⌜ (r .number ≡ productNumber a) × (r .clashes ≡ clashesOr clashes a) ⌝ }
+// What is seen of a product in place.
+fn multiplied(a: Clashes, clashes: &mut u16) -> u8
+    ensures { λ r. ⌜ Gives productNumber clashesOr (now (clashes .entry)) (now (clashes .exit)) r a ⌝ }
 {
     match a {
-        Clashes::Number(k) => Product {
-            number: 0,
-            clashes: k,
-        },
-        Clashes::Refused(k) => Product { number: k, clashes },
+        Clashes::Number(c) => {
+            *clashes = c;
+            0
+        }
+        Clashes::Refused(k) => k,
     }
 }
 
@@ -406,37 +365,24 @@ pub extern "C" fn bawersun_imul(
         (Gives productNumber clashesOr (now (clashes .entry)) (now (clashes .exit)) r) ⌝ }
 {
     let d = terms::imul(n, m, x, z, phases, RowNumber(a), RowNumber(b));
-    let s = multiplied(d, *clashes);
-    *clashes = s.clashes;
-    s.number
+    multiplied(d, clashes)
 }
 
-struct Counts {
-    number: u8,
-    entries: usize,
-    t: usize,
-}
-
-// What is seen of a reduction's answer, with the numbers that stay where it gives none.
-fn counted(a: Canonicalized, entries: usize, t: usize) -> Counts
-    ensures { λ r. ⌜ (r .number ≡ reducedNumber a) × (r .entries ≡ entriesOr entries a) × (r .t ≡ pivotsOr t a) ⌝ }
+// What is seen of a reduction's answer: where it gives no number, the one that stands there stays.
+fn counted(a: Canonicalized, entries: &mut usize, t: &mut usize) -> u8
+    ensures { λ r. ⌜ Counted (now (entries .entry)) (now (t .entry)) (now (entries .exit)) (now (t .exit)) r a ⌝ }
 {
     match a {
-        Canonicalized::Done { entries, t } => Counts {
-            number: 0,
-            entries,
-            t,
-        },
-        Canonicalized::Full(capacity) => Counts {
-            number: 8,
-            entries: capacity,
-            t,
-        },
-        Canonicalized::Refused(k) => Counts {
-            number: k,
-            entries,
-            t,
-        },
+        Canonicalized::Done { entries: e, t: p } => {
+            *entries = e;
+            *t = p;
+            0
+        }
+        Canonicalized::Full(capacity) => {
+            *entries = capacity;
+            8
+        }
+        Canonicalized::Refused(k) => k,
     }
 }
 
@@ -458,10 +404,7 @@ pub extern "C" fn bawersun_canonicalize(
         (after m x z phases) (now (log .exit))) (Counted (now (entries .entry)) (now (t .entry)) (now (entries .exit)) (now (t .exit)) r) ⌝ }
 {
     let a = terms::canonicalize(n, m, x, z, phases, order, listed, extra, log);
-    let c = counted(a, *entries, *t);
-    *entries = c.entries;
-    *t = c.t;
-    c.number
+    counted(a, entries, t)
 }
 
 #[no_mangle]
@@ -479,36 +422,25 @@ pub extern "C" fn bawersun_canonicalize_all(
         (Counted (now (entries .entry)) (now (t .entry)) (now (entries .exit)) (now (t .exit)) r) ⌝ }
 {
     let a = terms::canonicalize_all(n, m, x, z, phases, log);
-    let c = counted(a, *entries, *t);
-    *entries = c.entries;
-    *t = c.t;
-    c.number
+    counted(a, entries, t)
 }
 
-struct Place {
-    number: u8,
-    place: usize,
-}
-
-// What is seen of a verdict, with the place that stays where it names none.
-fn placed(v: Verdict, place: usize) -> Place
-    ensures { λ r. ⌜ (r .number ≡ verdictNumber v) × (r .place ≡ placeOr place v) ⌝ }
+// What is seen of a verdict: where it names no place, the number stays.
+fn placed(a: Verdict, place: &mut usize) -> u8
+    ensures { λ r. ⌜ Gives verdictNumber placeOr (now (place .entry)) (now (place .exit)) r a ⌝ }
 {
-    match v {
-        Verdict::BadEntry(k) => Place {
-            number: BAD_ENTRY,
-            place: k,
-        },
-        Verdict::Differs(k) => Place {
-            number: DIFFERS,
-            place: k,
-        },
-        Verdict::NotReduced => Place {
-            number: NOT_REDUCED,
-            place,
-        },
-        Verdict::Yes => Place { number: 0, place },
-        Verdict::Refused(k) => Place { number: k, place },
+    match a {
+        Verdict::BadEntry(k) => {
+            *place = k;
+            BAD_ENTRY
+        }
+        Verdict::Differs(k) => {
+            *place = k;
+            DIFFERS
+        }
+        Verdict::NotReduced => NOT_REDUCED,
+        Verdict::Yes => 0,
+        Verdict::Refused(k) => k,
     }
 }
 
@@ -546,22 +478,20 @@ pub extern "C" fn bawersun_check(
         cz,
         cphases,
     );
-    let s = placed(v, *place);
-    *place = s.place;
-    s.number
+    placed(v, place)
 }
 
-// What is seen of walking back, with the place that stays where it names none.
-fn walked(a: Undone, place: usize) -> Place
-    ensures { λ r. ⌜ (r .number ≡ undoneNumber a) × (r .place ≡ entryOr place a) ⌝ }
+// What is seen of walking back.
+fn walked(a: Undone, place: &mut usize) -> u8
+    ensures { λ r. ⌜ Gives undoneNumber entryOr (now (place .entry)) (now (place .exit)) r a ⌝ }
 {
     match a {
-        Undone::BadEntry(k) => Place {
-            number: BAD_ENTRY,
-            place: k,
-        },
-        Undone::Done => Place { number: 0, place },
-        Undone::Refused(k) => Place { number: k, place },
+        Undone::BadEntry(k) => {
+            *place = k;
+            BAD_ENTRY
+        }
+        Undone::Done => 0,
+        Undone::Refused(k) => k,
     }
 }
 
@@ -581,26 +511,21 @@ pub extern "C" fn bawersun_undo(
         (Gives undoneNumber entryOr (now (place .entry)) (now (place .exit)) r) ⌝ }
 {
     let a = replay::undo::undo(n, m, x, z, phases, listed, extra, log);
-    let s = walked(a, *place);
-    *place = s.place;
-    s.number
+    walked(a, place)
 }
 
 // ---- the text of a row
 
-// What is seen of a text that is written, with the length that stays where there is none.
-fn sized(a: Written, length: usize) -> Place
-    ensures { λ r. ⌜ (r .number ≡ writtenNumber a) × (r .place ≡ lengthOr length a) ⌝ }
+// What is seen of a text that is written.
+fn sized(a: Written, length: &mut usize) -> u8
+    ensures { λ r. ⌜ Gives writtenNumber lengthOr (now (length .entry)) (now (length .exit)) r a ⌝ }
 {
     match a {
-        Written::Length(l) => Place {
-            number: 0,
-            place: l,
-        },
-        Written::Refused(k) => Place {
-            number: k,
-            place: length,
-        },
+        Written::Length(l) => {
+            *length = l;
+            0
+        }
+        Written::Refused(k) => k,
     }
 }
 
@@ -619,9 +544,7 @@ pub extern "C" fn bawersun_fmt_elem(
         (Gives writtenNumber lengthOr (now (length .entry)) (now (length .exit)) r) ⌝ }
 {
     let a = row_text::fmt_elem(n, m, x, z, phases, RowNumber(row), out);
-    let s = sized(a, *length);
-    *length = s.place;
-    s.number
+    sized(a, length)
 }
 
 #[no_mangle]
@@ -692,24 +615,18 @@ pub extern "C" fn bawersun_conj_cx(
 
 // ---- matrix elements
 
-struct Parts {
-    number: u8,
-    re: f64,
-    im: f64,
-}
-
-// What is seen of a matrix element, with the parts that stay where there is no sum.
-fn parted(a: Element, re: f64, im: f64) -> Parts
-    ensures { λ r. ⌜ (r .number ≡ elementNumber a) × (r .re ≡ realOr re a) × (r .im ≡ imagOr im a) ⌝ }
+// What is seen of a matrix element: where there is no sum, the parts stay.
+fn parted(a: Element, real: &mut f64, imag: &mut f64) -> u8
+    ensures { λ r. ⌜ Parted (now (real .entry)) (now (imag .entry)) (now (real .exit)) (now (imag .exit)) r a ⌝ }
 {
     match a {
-        Element::Sum(re, im) => Parts { number: 0, re, im },
-        Element::NoBlock => Parts {
-            number: NO_BLOCK,
-            re,
-            im,
-        },
-        Element::Refused(k) => Parts { number: k, re, im },
+        Element::Sum(re, im) => {
+            *real = re;
+            *imag = im;
+            0
+        }
+        Element::NoBlock => NO_BLOCK,
+        Element::Refused(k) => k,
     }
 }
 
@@ -729,30 +646,21 @@ pub extern "C" fn bawersun_mat_elem_cmpnts_from_presorted(
         (Parted (now (real .entry)) (now (imag .entry)) (now (real .exit)) (now (imag .exit)) r) ⌝ }
 {
     let a = mat_elem::float::mat_elem_cmpnts_from_presorted(n, x, z, re, im, bra, ket);
-    let p = parted(a, *real, *imag);
-    *real = p.re;
-    *imag = p.im;
-    p.number
+    parted(a, real, imag)
 }
 
-struct Wholes {
-    number: u8,
-    re: i64,
-    im: i64,
-}
-
-// What is seen of an element in whole numbers, with the parts that stay where there is no sum.
-fn summed(a: mat_elem::whole::Element, re: i64, im: i64) -> Wholes
-    ensures { λ r. ⌜ (r .number ≡ wholeNumber a) × (r .re ≡ wholeReal re a) × (r .im ≡ wholeImag im a) ⌝ }
+// What is seen of an element in whole numbers.
+fn summed(a: mat_elem::whole::Element, real: &mut i64, imag: &mut i64) -> u8
+    ensures { λ r. ⌜ Summed (now (real .entry)) (now (imag .entry)) (now (real .exit)) (now (imag .exit)) r a ⌝ }
 {
     match a {
-        mat_elem::whole::Element::Sum(re, im) => Wholes { number: 0, re, im },
-        mat_elem::whole::Element::NoBlock => Wholes {
-            number: NO_BLOCK,
-            re,
-            im,
-        },
-        mat_elem::whole::Element::Refused(k) => Wholes { number: k, re, im },
+        mat_elem::whole::Element::Sum(re, im) => {
+            *real = re;
+            *imag = im;
+            0
+        }
+        mat_elem::whole::Element::NoBlock => NO_BLOCK,
+        mat_elem::whole::Element::Refused(k) => k,
     }
 }
 
@@ -772,21 +680,20 @@ pub extern "C" fn bawersun_mat_elem_cmpnts_from_presorted_whole(
         (Summed (now (real .entry)) (now (imag .entry)) (now (real .exit)) (now (imag .exit)) r) ⌝ }
 {
     let a = mat_elem::whole::mat_elem_cmpnts_from_presorted(n, x, z, re, im, bra, ket);
-    let p = summed(a, *real, *imag);
-    let r = p.re;
-    let i = p.im;
-    *real = r;
-    *imag = i;
-    p.number
+    summed(a, real, imag)
 }
 
-// What is seen of a sum over pairs, with the parts that stay where there is none.
-fn totalled(a: Total, re: i64, im: i64) -> Wholes
-    ensures { λ r. ⌜ (r .number ≡ totalNumber a) × (r .re ≡ totalReal re a) × (r .im ≡ totalImag im a) ⌝ }
+// What is seen of a sum over pairs.
+fn totalled(a: Total, real: &mut i64, imag: &mut i64) -> u8
+    ensures { λ r. ⌜ Totalled (now (real .entry)) (now (imag .entry)) (now (real .exit)) (now (imag .exit)) r a ⌝ }
 {
     match a {
-        Total::Sum(re, im) => Wholes { number: 0, re, im },
-        Total::Refused(k) => Wholes { number: k, re, im },
+        Total::Sum(re, im) => {
+            *real = re;
+            *imag = im;
+            0
+        }
+        Total::Refused(k) => k,
     }
 }
 
@@ -822,12 +729,7 @@ pub extern "C" fn bawersun_mat_elem_from_presorted(
         kre,
         kim,
     );
-    let p = totalled(a, *real, *imag);
-    let r = p.re;
-    let i = p.im;
-    *real = r;
-    *imag = i;
-    p.number
+    totalled(a, real, imag)
 }
 
 // ---- words

@@ -8,13 +8,12 @@ returns : tie.Need-returns
 returns c =
     let s = c .before .before in
     let p = s .before in
-    let e = c .tallied .ensures in
     let a = p .before .before .before .before .before .args in
     let M = memOf (a .m) (a .x .now) (a .z .now) (a .phases .now) in
     record {
       given = s .count .result;
       call = count-moved (a .n) M (p .before .row-for .ensures) (p .pauli-of .ensures) (s .count .ensures);
-      seen = record { number = e .0; value = e .1 };
+      seen = c .tallied .ensures;
     }
 
 pub bawersun-count-spec : {M : Type 1} → statement M
