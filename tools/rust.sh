@@ -49,6 +49,29 @@ need() { # PACKAGE PROFILE [WORD...]
     build "$@" || { cat "$rust/$1.log"; exit 1; }
 }
 
+# The library in the process that compares, where this machine can link its archive: sets `archive`, what `compare` is told of it, and where that is
+# `-`, `without`, why.
+find_archive() {
+    local file=$here/target/staticlib/libbawersun.a
+    archive=- without=
+    if [ "$(uname -m)" != x86_64 ]; then
+        without="it links only into x86-64 programs"
+    elif ! [ -e "$file" ]; then
+        without="it is not built (rt staticlib bawersun)"
+    elif [ -n "$(find "$here/crates" "$here/crates.txt" -newer "$file" -print -quit)" ]; then
+        without="it is older than the crates (rt staticlib bawersun)"
+    else
+        archive=archive
+        export BAWERSUN_ARCHIVE=${file%/*}
+    fi
+}
+
+# The comparer, with the archive where it can be had.
+need_compare() {
+    find_archive
+    if [ "$archive" = - ]; then need compare checked; else need compare checked --features archive; fi
+}
+
 lacking() {
     local name
     for name in "${crates[@]}"; do

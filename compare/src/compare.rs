@@ -1,16 +1,17 @@
-//! Runs the oracle and the program `calls` over the cases, holds their answers against each other and the model's,
-//! and counts.
+//! Runs the oracle, the program `calls` and the archive in this process over the cases, holds their answers against each
+//! other and the model's, and counts.
 
 use std::collections::BTreeMap;
 use std::io::{Read, Write};
 use std::process::{Command, Stdio};
 
-use crate::line::{is_case, parsed, Case, CALLS, MORE, SET};
+use crate::line::{is_case, parsed, parsed_of_any_length, Case, CALLS, MORE, SET};
 use crate::model;
 use crate::rows::{unpacked, Set};
 
-/// The programs to be asked, each with its arguments.
+/// The programs to be asked, each with its arguments, and how the archive is.
 pub struct Programs {
+    pub archive: Option<fn(&Case) -> String>,
     pub oracle: Option<Vec<String>>,
     pub calls: Option<Vec<String>>,
 }
@@ -34,6 +35,28 @@ struct Tally {
     rust_model: Count,
     calls_model: Count,
     calls_rust: Count,
+    archive_model: Count,
+    archive_rust: Count,
+}
+
+/// What each says to one line.
+#[derive(Clone, Copy)]
+struct Answers<'a> {
+    model: &'a str,
+    rust: Option<&'a str>,
+    calls: Option<&'a str>,
+    archive: Option<&'a str>,
+}
+
+impl<'a> Answers<'a> {
+    fn all(&self) -> [Option<&'a str>; 4] {
+        [Some(self.model), self.rust, self.calls, self.archive]
+    }
+
+    /// Those of our own code.
+    fn ours(&self) -> [Option<&'a str>; 3] {
+        [Some(self.model), self.calls, self.archive]
+    }
 }
 
 /// Floats that are whole numbers: `elemi` and `elemf` on the same terms, sums of `elemf` up to the bound, which have to be
@@ -64,6 +87,8 @@ pub struct Run {
     bytes: usize,
     shown: usize,
     faults: usize,
+    /// Lines may be longer than `calls` takes them.
+    any_length: bool,
 }
 
 const LINES_AT_ONCE: usize = 20_000;
@@ -165,10 +190,6 @@ fn not_finite(rust: &str) -> bool {
     parts.map(|bits| u64::from_str_radix(bits, 16)).any(|bits| bits.is_ok_and(|bits| !f64::from_bits(bits).is_finite()))
 }
 
-fn name_of(line: &str) -> &'static str {
-    parsed(line).map_or("not of the form", |case| case.call)
-}
-
 /// The kind of an answer: its words up to the first number that varies.
 fn kind_of(answer: &str) -> String {
     let words: Vec<&str> = answer.split(' ').collect();
@@ -194,6 +215,10 @@ fn short(text: &str) -> String {
 }
 
 impl Run {
+    pub fn of_any_length() -> Self {
+        Self { any_length: true, ..Self::default() }
+    }
+
     pub fn put(&mut self, programs: &Programs, line: String) {
         if !is_case(&line) {
             return;
@@ -211,12 +236,31 @@ impl Run {
         if lines.is_empty() {
             return;
         }
-        let model: Vec<String> = lines.iter().map(|line| model::answer(line)).collect();
+        let cases: Vec<Option<Case>> = lines.iter().map(|line| self.parsed(line)).collect();
+        let bad_line = || "bad line".to_string();
+        let each = |answer: fn(&Case) -> String| -> Vec<String> {
+            cases.iter().map(|case| case.as_ref().map_or_else(bad_line, answer)).collect()
+        };
+        let model = each(model::answer_to);
         let rust = self.rust_column(programs, &lines, &model);
         let every: Vec<&str> = lines.iter().map(String::as_str).collect();
         let calls = programs.calls.as_ref().map(|program| self.answers(program, &every));
+        let archive = programs.archive.map(each);
         for (i, line) in lines.iter().enumerate() {
-            self.judge(line, &model[i], rust[i].as_deref(), calls.as_ref().map(|answers| answers[i].as_str()));
+            let one = |answers: &'_ Option<Vec<String>>| answers.as_ref().map(|answers| answers[i].clone());
+            let (calls, archive) = (one(&calls), one(&archive));
+            // a line that is not of the form is no call
+            let archive = archive.as_deref().filter(|_| cases[i].is_some());
+            let answers = Answers { model: &model[i], rust: rust[i].as_deref(), calls: calls.as_deref(), archive };
+            self.judge(line, cases[i].as_ref(), answers);
+        }
+    }
+
+    /// The case of a line, which is not too long for `calls` unless lines of any length were asked for.
+    fn parsed(&self, line: &str) -> Option<Case> {
+        match self.any_length {
+            true => parsed_of_any_length(line),
+            false => parsed(line),
         }
     }
 
@@ -239,38 +283,40 @@ impl Run {
         out
     }
 
-    fn judge(&mut self, line: &str, model: &str, rust: Option<&str>, calls: Option<&str>) {
-        *self.kinds.entry(kind_of(model)).or_default() += 1;
-        let tally = self.tallies.entry(name_of(line)).or_default();
+    fn judge(&mut self, line: &str, case: Option<&Case>, answers: Answers) {
+        *self.kinds.entry(kind_of(answers.model)).or_default() += 1;
+        let tally = self.tallies.entry(case.map_or("not of the form", |case| case.call)).or_default();
         tally.cases += 1;
         let mut agree = true;
-        if let Some(rust) = rust {
-            agree &= counted(&mut tally.rust_model, agrees_with_rust(model, rust));
-        }
-        if let Some(calls) = calls {
-            agree &= counted(&mut tally.calls_model, calls == model);
-            if let Some(rust) = rust {
-                agree &= counted(&mut tally.calls_rust, agrees_with_rust(calls, rust));
+        let mut held = |count: &mut Count, answer: Option<&str>, other: Option<&str>, same: fn(&str, &str) -> bool| {
+            if let (Some(answer), Some(other)) = (answer, other) {
+                agree &= counted(count, same(answer, other));
             }
+        };
+        let Answers { model, rust, calls, archive } = answers;
+        held(&mut tally.rust_model, Some(model), rust, agrees_with_rust);
+        held(&mut tally.calls_model, calls, Some(model), |a, b| a == b);
+        held(&mut tally.calls_rust, calls, rust, agrees_with_rust);
+        held(&mut tally.archive_model, archive, Some(model), |a, b| a == b);
+        held(&mut tally.archive_rust, archive, rust, agrees_with_rust);
+        if let (Some(case), Some(rust)) = (case, rust) {
+            self.signs.judge(case, answers.ours().iter().flatten().all(|answer| agrees_with_rust(answer, rust)));
         }
-        if let Some(rust) = rust {
-            self.signs.judge(line, [Some(model), calls].iter().flatten().all(|answer| agrees_with_rust(answer, rust)));
-        }
-        agree &= self.wholes.judge(line, [Some(model), rust, calls]);
+        agree &= self.wholes.judge(case, answers.all());
         if !agree {
-            self.show(line, model, rust, calls);
+            self.show(line, answers);
         }
     }
 
-    fn show(&mut self, line: &str, model: &str, rust: Option<&str>, calls: Option<&str>) {
+    fn show(&mut self, line: &str, answers: Answers) {
         self.shown += 1;
         if self.shown > SHOWN {
             return;
         }
         println!("differs: {}", short(line));
-        println!("  model: {}", short(model));
-        println!("  Rust:  {}", short(rust.unwrap_or("(not asked)")));
-        println!("  calls: {}", short(calls.unwrap_or("(not asked)")));
+        for (name, answer) in ["model:  ", "Rust:   ", "calls:  ", "archive:"].iter().zip(answers.all()) {
+            println!("  {name} {}", short(answer.unwrap_or("(not asked)")));
+        }
     }
 
     /// Prints the table; the number of cases with a difference, of faults, and of what the run could not have seen.
@@ -290,8 +336,9 @@ impl Run {
     }
 
     fn print_table(&self, whole: bool) {
-        println!("| call | cases | Rust and model | differ | calls and model | differ | calls and Rust | differ |");
-        println!("|---|---:|---:|---:|---:|---:|---:|---:|");
+        let pairs = ["Rust and model", "calls and model", "calls and Rust", "archive and model", "archive and Rust"];
+        println!("| call | cases | {} | differ |", pairs.join(" | differ | "));
+        println!("|---|---:|{}", "---:|---:|".repeat(pairs.len()));
         let names = CALLS.iter().map(|call| call.0).chain(["not of the form"]);
         let mut sum = Tally::default();
         for name in names {
@@ -309,7 +356,8 @@ impl Run {
     /// Prints how some lines were answered; the number of cases with a difference and of faults, and never 0 where no
     /// program was asked anything.
     pub fn report_lines(&self) -> usize {
-        let compared: u64 = self.tallies.values().map(|t| t.rust_model.compared + t.calls_model.compared).sum();
+        let of = |t: &Tally| t.rust_model.compared + t.calls_model.compared + t.archive_model.compared;
+        let compared: u64 = self.tallies.values().map(of).sum();
         println!("answers compared with the model's: {compared}");
         println!("{}", self.wrong());
         self.shown + self.faults + (compared == 0) as usize
@@ -322,9 +370,9 @@ impl Run {
 
 impl Signs {
     /// Counts a pairwise product that the Rust has answered.
-    fn judge(&mut self, line: &str, agree: bool) {
-        if let Some(case) = parsed(line).filter(|case| case.call == "pair") {
-            let rows = |at: usize| unpacked(0, &Set { x: vec![], z: vec![], ..model::set_at(&case, at) });
+    fn judge(&mut self, case: &Case, agree: bool) {
+        if case.call == "pair" {
+            let rows = |at: usize| unpacked(0, &Set { x: vec![], z: vec![], ..model::set_at(case, at) });
             let cancels = rows(SET).iter().zip(rows(MORE)).all(|(left, right)| (left.phase + right.phase) % 4 == 0);
             let kind = if cancels { &mut self.cancelling } else { &mut self.signed };
             kind.add(agree);
@@ -343,15 +391,15 @@ impl Signs {
 
 impl Wholes {
     /// Whether all answers to a line, and to the line before where it has the same terms, agree as whole numbers.
-    fn judge(&mut self, line: &str, answers: [Option<&str>; 3]) -> bool {
+    fn judge(&mut self, case: Option<&Case>, answers: [Option<&str>; 4]) -> bool {
         let last = self.last.take();
-        let Some(case) = parsed(line).filter(|case| matches!(case.call, "elemi" | "elemf")) else { return true };
+        let Some(case) = case.filter(|case| matches!(case.call, "elemi" | "elemf")) else { return true };
         let mut agree = true;
-        if let Some((_, before)) = last.filter(|(whole, _)| same_terms(whole, &case)) {
+        if let Some((_, before)) = last.filter(|(whole, _)| same_terms(whole, case)) {
             let same = before.iter().zip(answers).all(|(a, b)| same_element(a.as_deref(), b));
             agree &= counted(&mut self.pairs, same);
         }
-        if let Some(sum) = model::whole_sum(&case) {
+        if let Some(sum) = model::whole_sum(case) {
             let exact = answers.iter().flatten().all(|answer| element("elemf", answer) == Some(sum.parts));
             if sum.size <= model::EXACT as i128 {
                 agree &= counted(&mut self.within, exact);
@@ -359,7 +407,7 @@ impl Wholes {
                 self.above.add(exact);
             }
         }
-        self.last = Some((case, answers.iter().map(|answer| answer.map(str::to_string)).collect()));
+        self.last = Some((case.clone(), answers.iter().map(|answer| answer.map(str::to_string)).collect()));
         agree
     }
 
@@ -415,19 +463,21 @@ fn counted(count: &mut Count, agree: bool) -> bool {
 }
 
 fn print_row(name: &str, tally: &Tally) {
-    let pair = |count: &Count| format!("{} | {}", count.compared, count.differing);
-    let (a, b, c) = (pair(&tally.rust_model), pair(&tally.calls_model), pair(&tally.calls_rust));
-    println!("| {name} | {} | {a} | {b} | {c} |", tally.cases);
+    let pairs = counts_of(tally).map(|count| format!("{} | {}", count.compared, count.differing));
+    println!("| {name} | {} | {} |", tally.cases, pairs.join(" | "));
+}
+
+fn counts_of(tally: &Tally) -> [&Count; 5] {
+    let Tally { rust_model, calls_model, calls_rust, archive_model, archive_rust, .. } = tally;
+    [rust_model, calls_model, calls_rust, archive_model, archive_rust]
 }
 
 fn add(sum: &mut Tally, tally: &Tally) {
     sum.cases += tally.cases;
-    let pairs = [
-        (&mut sum.rust_model, &tally.rust_model),
-        (&mut sum.calls_model, &tally.calls_model),
-        (&mut sum.calls_rust, &tally.calls_rust),
-    ];
-    for (to, from) in pairs {
+    let Tally { rust_model, calls_model, calls_rust, archive_model, archive_rust, .. } = sum;
+    for (to, from) in
+        [rust_model, calls_model, calls_rust, archive_model, archive_rust].into_iter().zip(counts_of(tally))
+    {
         to.compared += from.compared;
         to.differing += from.differing;
     }

@@ -1,21 +1,26 @@
-//! compare run SEED COUNT ORACLE [CALLS...]    compare, print the table
-//! compare late SEED COUNT ORACLE [CALLS...]   compare on reductions at the edges of the table
-//! compare lines ORACLE [CALLS...]             compare on the lines of standard input
-//! compare fixed ORACLE CASES ANSWERS          write the fixed list
-//! compare cases SEED COUNT                    print the lines of a run
-//! compare model                               answer the lines on standard input by the model
-//! compare files SEED COUNT VERDICT...         compare on log files, print the table
-//! compare few VERDICT...                      compare on the first files that hold runs
-//! compare file SEED NUMBER                    write that file of a run
-//! compare fuzz SECONDS SEED VERDICT...        run `verdict` on files changed at random
-//! compare verdict                             be the program `verdict`, by the model
-//! compare page PAGE                           hold the model against the worked file of docs/PWL.md
+//! compare run SEED COUNT ARCHIVE ORACLE [CALLS...]    compare, print the table
+//! compare late SEED COUNT ARCHIVE ORACLE [CALLS...]   compare on reductions at the edges of the table
+//! compare lines ARCHIVE ORACLE [CALLS...]             compare on the lines of standard input
+//! compare limits SEED ORACLE                          compare the archive on sets of 4,096 rows of 4,096 qubits
+//! compare fixed ORACLE CASES ANSWERS                  write the fixed list
+//! compare cases SEED COUNT                            print the lines of a run
+//! compare model                                       answer the lines on standard input by the model
+//! compare files SEED COUNT VERDICT...                 compare on log files, print the table
+//! compare archive-files SEED COUNT                    compare the archive on log files
+//! compare few VERDICT...                              compare on the first files that hold runs
+//! compare file SEED NUMBER                            write that file of a run
+//! compare fuzz SECONDS SEED VERDICT...                run `verdict` on files changed at random
+//! compare verdict                                     be the program `verdict`, by the model
+//! compare page PAGE                                   hold the model against the worked file of docs/PWL.md
 //!
-//! ORACLE is the oracle's program, or `-` for none; CALLS and VERDICT the programs `calls` and
-//! `verdict` with their arguments.
+//! ARCHIVE is `archive` for the library in this process, where it is built in, or `-`; ORACLE is the oracle's program, or `-` for
+//! none; CALLS and VERDICT the programs `calls` and `verdict` with their arguments.
 
+mod both_limits;
 mod cases;
 mod compare;
+#[cfg(feature = "archive")]
+mod door;
 mod engines;
 mod faults;
 mod files;
@@ -49,9 +54,15 @@ fn main() {
     let args: Vec<String> = std::env::args().skip(1).collect();
     let args: Vec<&str> = args.iter().map(String::as_str).collect();
     let differences = match args[..] {
-        ["run", seed, count, oracle, ref calls @ ..] => run(number(seed), number(count), oracle, calls),
-        ["late", seed, count, oracle, ref calls @ ..] => run_late(number(seed), number(count), oracle, calls),
-        ["lines", oracle, ref calls @ ..] => compare_lines(oracle, calls),
+        ["run", seed, count, archive, oracle, ref calls @ ..] => {
+            run(number(seed), number(count), programs(archive, oracle, calls))
+        }
+        ["late", seed, count, archive, oracle, ref calls @ ..] => {
+            run_late(number(seed), number(count), programs(archive, oracle, calls))
+        }
+        ["lines", archive, oracle, ref calls @ ..] => compare_lines(programs(archive, oracle, calls)),
+        ["limits", seed, oracle] => limits_run(number(seed), programs("archive", oracle, &[])),
+        ["archive-files", seed, count] => archive_files(number(seed), number(count)),
         ["fixed", oracle, cases, answers] => fixed::write(program(&[oracle]), cases, answers),
         ["cases", seed, count] => print_cases(number(seed), number(count)),
         ["model"] => print_answers(),
@@ -74,9 +85,10 @@ fn main() {
 
 fn usage() -> ! {
     eprintln!(
-        "usage: compare run SEED COUNT ORACLE [CALLS...] | late SEED COUNT ORACLE [CALLS...] \
-         | lines ORACLE [CALLS...] | fixed ORACLE CASES ANSWERS | cases SEED COUNT | model \
-         | files SEED COUNT VERDICT... | few VERDICT... | file SEED NUMBER | fuzz SECONDS SEED VERDICT... | verdict | page PAGE"
+        "usage: compare run SEED COUNT ARCHIVE ORACLE [CALLS...] | late SEED COUNT ARCHIVE ORACLE [CALLS...] \
+         | lines ARCHIVE ORACLE [CALLS...] | limits SEED ORACLE | fixed ORACLE CASES ANSWERS | cases SEED COUNT | model \
+         | files SEED COUNT VERDICT... | archive-files SEED COUNT | few VERDICT... | file SEED NUMBER \
+         | fuzz SECONDS SEED VERDICT... | verdict | page PAGE"
     );
     exit(2)
 }
@@ -93,8 +105,27 @@ fn program(words: &[&str]) -> Option<Vec<String>> {
     }
 }
 
-fn run(seed: u64, count: u64, oracle: &str, calls: &[&str]) -> usize {
-    let programs = Programs { oracle: program(&[oracle]), calls: program(calls) };
+fn programs(archive: &str, oracle: &str, calls: &[&str]) -> Programs {
+    let archive = match archive {
+        "-" => None,
+        "archive" => Some(in_process().unwrap_or_else(|| {
+            eprintln!("compare: the archive is not built in");
+            exit(2)
+        })),
+        _ => usage(),
+    };
+    Programs { archive, oracle: program(&[oracle]), calls: program(calls) }
+}
+
+/// How the archive in this process is asked.
+fn in_process() -> Option<fn(&line::Case) -> String> {
+    #[cfg(feature = "archive")]
+    return Some(door::answer);
+    #[cfg(not(feature = "archive"))]
+    None
+}
+
+fn run(seed: u64, count: u64, programs: Programs) -> usize {
     let mut run = Run::default();
     cases::all(seed, count, &mut |line| run.put(&programs, line));
     run.work_off(&programs);
@@ -102,8 +133,7 @@ fn run(seed: u64, count: u64, oracle: &str, calls: &[&str]) -> usize {
     run.report()
 }
 
-fn run_late(seed: u64, count: u64, oracle: &str, calls: &[&str]) -> usize {
-    let programs = Programs { oracle: program(&[oracle]), calls: program(calls) };
+fn run_late(seed: u64, count: u64, programs: Programs) -> usize {
     let mut run = Run::default();
     let reached = late::all(seed, count, &mut |line| run.put(&programs, line));
     run.work_off(&programs);
@@ -112,12 +142,36 @@ fn run_late(seed: u64, count: u64, oracle: &str, calls: &[&str]) -> usize {
     run.report_some() + reached.blind() as usize
 }
 
-fn compare_lines(oracle: &str, calls: &[&str]) -> usize {
-    let programs = Programs { oracle: program(&[oracle]), calls: program(calls) };
+fn compare_lines(programs: Programs) -> usize {
     let mut run = Run::default();
     input(&mut |line| run.put(&programs, line));
     run.work_off(&programs);
     run.report_lines()
+}
+
+fn limits_run(seed: u64, programs: Programs) -> usize {
+    let mut run = Run::of_any_length();
+    both_limits::all(seed, &mut |line| {
+        run.put(&programs, line);
+        run.work_off(&programs);
+    });
+    println!("seed {seed}, sets of 4,096 rows of 4,096 qubits");
+    run.report_some()
+}
+
+/// The verdict of the archive on log files, against the model's.
+#[cfg(feature = "archive")]
+fn archive_files(seed: u64, count: u64) -> usize {
+    verdicts::compare_by(seed, count, &|file| {
+        let record = pwl::read(file);
+        (door::verdict(file, record.as_ref().ok()), pwl::verdict_on(&record))
+    })
+}
+
+#[cfg(not(feature = "archive"))]
+fn archive_files(_: u64, _: u64) -> usize {
+    eprintln!("compare: the archive is not built in");
+    exit(2)
 }
 
 /// The lines of standard input as they are: only the line feed is taken off.

@@ -150,12 +150,17 @@ pub fn of_check(case: &Case) -> Record {
 
 /// The line of the program, without its line feed.
 pub fn line_of(input: &[u8]) -> String {
-    if input.len() > LONGEST {
-        return "too large".to_string();
+    match input.len() > LONGEST {
+        true => "too large".to_string(),
+        false => verdict_on(&read(input)),
     }
-    match read(input) {
+}
+
+/// The same where there is room for any file.
+pub fn verdict_on(record: &Result<Record, u8>) -> String {
+    match record {
         Err(number) => number.to_string(),
-        Ok(record) => said(&model::answer_to(&as_check(&record))),
+        Ok(record) => said(&model::answer_to(&as_check(record))),
     }
 }
 

@@ -135,6 +135,29 @@ pub fn compare(seed: u64, count: u64, program: &[String]) -> usize {
     tally.report()
 }
 
+/// What is said in this process on at least `count` files, and what is due; how many differ.
+pub fn compare_by(seed: u64, count: u64, said_and_due: &dyn Fn(&[u8]) -> (String, String)) -> usize {
+    let (mut number, mut differing) = (0, 0);
+    let mut lines = BTreeMap::new();
+    files::all(seed, count, &mut |file| {
+        let (said, due) = said_and_due(&file.bytes);
+        *lines.entry(kind_of(&due)).or_default() += 1;
+        if said != due {
+            differing += 1;
+            if differing <= SHOWN {
+                println!("differs: file {number} ({}): it said '{said}', where '{due}' is due", file.kind);
+            }
+        }
+        number += 1;
+    });
+    println!(
+        "seed {seed}, {number} log files through the archive: opened, read and checked; lines of the model: {}",
+        counts(&lines)
+    );
+    println!("files with a difference: {differing}");
+    differing + (number == 0) as usize
+}
+
 /// Runs the program over the first rounds alone: enough for a program that is wrong on most files.
 pub fn compare_few(program: &[String]) -> usize {
     let mut tally = Tally::default();
