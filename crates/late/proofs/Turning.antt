@@ -9,7 +9,7 @@ use native.Mathlib.Numerals.{add-one}
 use native.Mathlib.Omega.{arith}
 use lib.Dec.{eqb, ltb}
 use lib.ListN.{length, getD, take, set, length-set}
-use lib.Seq.{take-suc-set, length-take-le, getD-set-other}
+use lib.Seq.{take-suc-set, length-take-le, getD-set-other, set-getD}
 use borrow.Author.Tests.{eq-eqb, ne-eqb, lt-ltb, le-ltb}
 use Rattle.pauli.specs.Row.{Row, mulRow, bitRow}
 use Rattle.encoding.specs.Set.{Mem, count, rowsOf}
@@ -25,7 +25,7 @@ use Rattle.tabled.proofs.Bits.{row-bit}
 use Rattle.tabled.proofs.Columns.{meets-turn}
 use Rattle.tabled.proofs.Steps.{put-here, put-other}
 use Rattle.late.specs.declared.clear.Late.{Late}
-use Rattle.late.specs.Workers.{Store, store, lateOf, heldBy, heldOf, Shape, Carries, Runs, Reads, seenBit, Sees, OweIn, Owes, stays, fits, TurnIn}
+use Rattle.late.specs.Workers.{Store, store, lateOf, heldBy, heldOf, Shape, Carries, Runs, Reads, seenBit, Sees, OweIn, Owes, TurnIn}
 use Rattle.late.proofs.View.{keeps-none, set-put}
 use Rattle.late.proofs.Runs.{held-going, carries-none}
 
@@ -130,10 +130,6 @@ module _ {n c p h : ℕ} {M T : Mem} {owed log : List ℕ} {s : Late} (t : TurnI
       in-owed : k < length owed
       in-owed = omega (arith, t .shape .owing .long)
 
-      -- what `owe` is asked
-      pub owe-in : OweIn owed log s h k
-      owe-in = record { room = t .shape .room; k-in = in-owed; small = omega (arith, owes-not, t .bit-is, top, t .shape .fits) }
-
       there : length (pairs (take (s .entries + s .entries) log)) ≡ s .entries
       there = length-first (s .entries) log (t .shape .room)
 
@@ -142,7 +138,7 @@ module _ {n c p h : ℕ} {M T : Mem} {owed log : List ℕ} {s : Late} (t : TurnI
       unfolding fitting
       by-fit b q = sym (ap (λ x. cond x (going (owe j k p L)) (stopped L)) q) ∙ still true (seen ∙ on)
 
-      stay-does : capacity log ≤ s .entries → Turned owed log (record { full = true; entries = s .entries; t = s .t; g = s .g })
+      pub stay-does : capacity log ≤ s .entries → Turned owed log (record { full = true; entries = s .entries; t = s .t; g = s .g })
       unfolding heldBy
       stay-does l =
           turns owed log (record { full = true; entries = s .entries; t = s .t; g = s .g })
@@ -190,9 +186,33 @@ module _ {n c p h : ℕ} {M T : Mem} {owed log : List ℕ} {s : Late} (t : TurnI
             past = λ a ha. getD-set-other (set log m k) (m + 1) a p 0 (omega arith) ∙ getD-set-other log m a k 0 (omega arith);
           })
 
-      pub turn-on : {owed' log' : List ℕ} {s' : Late} → Owes owed log s h p k owed' log' s' → Turned owed' log' s'
-      turn-on {owed'} {log'} {s'} (stays l a b q) = subst (λ x. Turned x log' s') (sym a) (subst (λ x. Turned owed x s') (sym b) (subst (λ x. Turned owed log x) (sym q) (stay-does l)))
-      turn-on {owed'} {log'} {s'} (fits l a b q) =
-          subst (λ x. Turned x log' s') (sym a)
-          (subst (λ x. Turned (set owed k (getD owed k 0 + h)) x s') (sym b)
-          (subst (λ x. Turned (set owed k (getD owed k 0 + h)) (set (set log (s .entries + s .entries) k) (s .entries + s .entries + 1) p) x) (sym q) (fit-does l)))
+    -- what `owe` is asked
+    pub owe-in : s .entries < capacity log → OweIn owed log s h k r
+    owe-in l = record { room = l; k-in = omega (arith, hk, t .shape .owing .long); small = go r refl }
+      where
+        go : (b : Bool) → r ≡ b → getD owed k 0 + cond b h 0 < 256
+        go true on = omega (arith, owes-not on, t .bit-is, top on, t .shape .fits)
+        go false off = omega (arith, t .shape .owing .small k, t .shape .fits)
+
+    -- and what it leaves
+    pub turn-owed : {owed' log' : List ℕ} {s' : Late} → s .entries < capacity log → Owes owed log s h p k r owed' log' s' → Turned owed' log' s'
+    turn-owed {owed'} {log'} {s'} l O = go r refl
+      where
+        moved : (o l' : List ℕ) (s″ : Late) → owed' ≡ o → log' ≡ l' → s' ≡ s″ → Turned o l' s″ → Turned owed' log' s'
+        moved o l' s″ a b q T = subst (λ x. Turned x log' s') (sym a) (subst (λ x. Turned o x s') (sym b) (subst (λ x. Turned o l' x) (sym q) T))
+
+        go : (b : Bool) → r ≡ b → Turned owed' log' s'
+        go true on =
+            moved (set owed k (getD owed k 0 + h)) (set (set log (s .entries + s .entries) k) (s .entries + s .entries + 1) p) (record { full = false; entries = s .entries + 1; t = s .t; g = s .g })
+            (O .owed-is ∙ ap (λ b. set owed k (getD owed k 0 + cond b h 0)) on)
+            (O .log-is ∙ ap (λ b. set (set log (s .entries + s .entries) (cond b k (getD log (s .entries + s .entries) 0))) (s .entries + s .entries + 1) (cond b p (getD log (s .entries + s .entries + 1) 0))) on)
+            (O .at-is ∙ ap (λ b. record { full = false; entries = cond b (s .entries + 1) (s .entries); t = s .t; g = s .g }) on)
+            (fit-does on l)
+        go false off =
+            moved owed log s
+            (O .owed-is ∙ ap (λ b. set owed k (getD owed k 0 + cond b h 0)) off ∙ ap (set owed k) (let z : getD owed k 0 + 0 ≡ getD owed k 0 = omega arith in z) ∙ set-getD owed k 0)
+            (O .log-is ∙ ap (λ b. set (set log (s .entries + s .entries) (cond b k (getD log (s .entries + s .entries) 0))) (s .entries + s .entries + 1) (cond b p (getD log (s .entries + s .entries + 1) 0))) off
+            ∙ ap (λ (l' : List ℕ). set l' (s .entries + s .entries + 1) (getD log (s .entries + s .entries + 1) 0)) (set-getD log (s .entries + s .entries) 0) ∙ set-getD log (s .entries + s .entries + 1) 0)
+            (O .at-is ∙ ap (λ b. record { full = false; entries = cond b (s .entries + 1) (s .entries); t = s .t; g = s .g }) off
+            ∙ (λ i. record { full = sym (t .going) i; entries = s .entries; t = s .t; g = s .g }))
+            (turn-off off)

@@ -2,7 +2,7 @@
 -- run (`Does`). The row set, the entries in the log, the run they stand for; the table and what rows owe. Assumes nothing.
 use mathlib.Core.Path.{_≡_}
 use mathlib.Core.Logic.{_⊎_}
-use mathlib.Core.Bool.{Bool, true, false, xor}
+use mathlib.Core.Bool.{Bool, true, false, cond, xor}
 use mathlib.Core.Option.{none, some}
 use mathlib.Core.List.{List, _∷_}
 use Prim.Native.Nat.{ℕ, _+_, _-_, _*_, _/_, _%_, _^_, _≤_, _<_}
@@ -230,16 +230,18 @@ pub record Sees (n c w j i : ℕ) (M T : Mem) (bs ts : List ℕ) : Type 0 where
   pub of-row : (k : ℕ) → k < count M → wordBit w j i bs k ≡ bitRow n (rowsOf n M k) c
   pub of-entry : (k : ℕ) → k < count T → wordBit w j i ts k ≡ bitRow n (rowsOf n T k) c
 
-pub record OweIn (owed log : List ℕ) (s : Late) (h k : ℕ) : Type 0 where
-  pub room : s .entries + s .entries ≤ length log
+-- the log has room for an entry more, and the byte of row k for the pivot's bit, if it comes to owe it
+pub record OweIn (owed log : List ℕ) (s : Late) (h k : ℕ) (b : Bool) : Type 0 where
+  pub room : s .entries < capacity log
   pub k-in : k < length owed
-  pub small : getD owed k 0 + h < 256
+  pub small : getD owed k 0 + cond b h 0 < 256
 
--- full, and nothing is done; or the entry is there, and the row owes the pivot
-pub data Owes (owed log : List ℕ) (s : Late) (h p k : ℕ) (owed′ log′ : List ℕ) (r : Late) : Type 0 where
-  stays : capacity log ≤ s .entries → owed′ ≡ owed → log′ ≡ log → r ≡ record { full = true; entries = s .entries; t = s .t; g = s .g } → Owes owed log s h p k owed′ log′ r
-  fits : s .entries < capacity log → owed′ ≡ set owed k (getD owed k 0 + h) → log′ ≡ set (set log (s .entries + s .entries) k) (s .entries + s .entries + 1) p
-      → r ≡ record { full = false; entries = s .entries + 1; t = s .t; g = s .g } → Owes owed log s h p k owed′ log′ r
+-- where b holds, the entry is there, and the row owes the pivot; else everything is as it was
+pub record Owes (owed log : List ℕ) (s : Late) (h p k : ℕ) (b : Bool) (owed′ log′ : List ℕ) (r : Late) : Type 0 where
+  pub owed-is : owed′ ≡ set owed k (getD owed k 0 + cond b h 0)
+  pub log-is : log′ ≡ set (set log (s .entries + s .entries) (cond b k (getD log (s .entries + s .entries) 0))) (s .entries + s .entries + 1)
+      (cond b p (getD log (s .entries + s .entries + 1) 0))
+  pub at-is : r ≡ record { full = false; entries = cond b (s .entries + 1) (s .entries); t = s .t; g = s .g }
 
 -- row p is the block's last pivot, its bit is h, and column c is being cleared
 pub record TurnIn (n c p h : ℕ) (S : Store) : Type 0 where

@@ -1,5 +1,6 @@
 // A column cleared late: rows with the bit set come to owe the pivot, and the entries are logged.
 ghost use mathlib.Core.Path.{_≡_};
+ghost use mathlib.Core.Bool.{cond};
 ghost use mathlib.Core.List.{_++_};
 ghost use Prim.Native.Nat.{_+_, _-_, _^_, _≤_, _<_};
 ghost use lib.ListN.{length, drop};
@@ -55,30 +56,43 @@ pub(crate) fn find(
     a
 }
 
-// Row k comes to owe the pivot, whose bit is h, and (k, pivot) is logged, if the entry fits.
-fn owe(owed: &mut [u8], log: &mut [u16], s: Late, h: u8, pivot: u16, k: u16) -> Late
-    requires { ⌜ OweIn (now owed) (now log) s h k ⌝ }
-    ensures { λ r. ⌜ Owes (now (owed .entry)) (now (log .entry)) s h pivot k (now (owed .exit)) (now (log .exit)) r ⌝ }
+// One of two numbers, with no jump: whether a row has a bit no processor foresees.
+fn choose(b: bool, on: u16, off: u16) -> u16
+    ensures { λ r. ⌜ r ≡ cond b on off ⌝ }
+{
+    if b { on } else { off }
+}
+
+fn choose_byte(b: bool, on: u8, off: u8) -> u8
+    ensures { λ r. ⌜ r ≡ cond b on off ⌝ }
+{
+    if b { on } else { off }
+}
+
+fn choose_place(b: bool, on: usize, off: usize) -> usize
+    ensures { λ r. ⌜ r ≡ cond b on off ⌝ }
+{
+    if b { on } else { off }
+}
+
+// Where b holds, row k comes to owe the pivot, whose bit is h, and (k, pivot) is logged; else what is written is what was there.
+fn owe(owed: &mut [u8], log: &mut [u16], s: Late, h: u8, pivot: u16, k: u16, b: bool) -> Late
+    requires { ⌜ OweIn (now owed) (now log) s h k b ⌝ }
+    ensures { λ r. ⌜ Owes (now (owed .entry)) (now (log .entry)) s h pivot k b (now (owed .exit)) (now (log .exit)) r ⌝ }
 {
     let e = s.entries;
     let t = s.t;
     let g = s.g;
-    if log.len() / 2 <= e {
-        return Late {
-            full: true,
-            entries: e,
-            t,
-            g,
-        };
-    }
     let q = k as usize;
-    owed[q] = owed[q] + h;
+    owed[q] = owed[q] + choose_byte(b, h, 0);
     let m = e + e;
-    log[m] = k;
-    log[m + 1] = pivot;
+    let target = log[m];
+    let source = log[m + 1];
+    log[m] = choose(b, k, target);
+    log[m + 1] = choose(b, pivot, source);
     Late {
         full: false,
-        entries: e + 1,
+        entries: choose_place(b, e + 1, e),
         t,
         g,
     }
@@ -116,8 +130,20 @@ fn turn(
     if k == pivot {
         return s;
     }
-    if true_bit(b, owed, tb, w, j, i, k as usize) {
-        return owe(owed, log, s, h, pivot, k);
+    let on = true_bit(b, owed, tb, w, j, i, k as usize);
+    let e = s.entries;
+    let t = s.t;
+    let g = s.g;
+    if e < log.len() / 2 {
+        return owe(owed, log, s, h, pivot, k, on);
+    }
+    if on {
+        return Late {
+            full: true,
+            entries: e,
+            t,
+            g,
+        };
     }
     s
 }
