@@ -117,6 +117,36 @@ static void multiply(struct rows s, size_t a, const word *bx, const word *bz, un
 
 static void in_place(struct rows s, size_t a, size_t b) { multiply(s, a, s.x + b * s.w, s.z + b * s.w, s.p[b]); }
 
+// Gates on every row: bits are turned, and the sign.
+void limit_h(size_t n, size_t m, word *x, word *z, uint8_t *p, size_t q) {
+    size_t w = words(n), k = q % 64;
+    for (size_t r = 0, t = q / 64; r < m; r++, t += w) {
+        word a = x[t], b = z[t], d = (a ^ b) >> k & 1;
+        x[t] = a ^ d << k;
+        z[t] = b ^ d << k;
+        p[r] ^= ((a & b) >> k & 1) << 1;
+    }
+}
+
+void limit_s(size_t n, size_t m, word *x, word *z, uint8_t *p, size_t q) {
+    size_t w = words(n), k = q % 64;
+    for (size_t r = 0, t = q / 64; r < m; r++, t += w) {
+        word a = x[t], b = z[t];
+        z[t] = b ^ (a >> k & 1) << k;
+        p[r] ^= ((a & b) >> k & 1) << 1;
+    }
+}
+
+void limit_cx(size_t n, size_t m, word *x, word *z, uint8_t *p, size_t control, size_t target) {
+    size_t w = words(n), i = control % 64, j = target % 64;
+    for (size_t r = 0, c = control / 64, t = target / 64; r < m; r++, c += w, t += w) {
+        word cx = x[c] >> i & 1, cz = z[c] >> i & 1, tx = x[t] >> j & 1, tz = z[t] >> j & 1;
+        x[t] ^= cx << j;
+        z[c] ^= tz << i;
+        p[r] ^= (cx & tz & ~(tx ^ cz)) << 1;
+    }
+}
+
 // Each row times the next one, all around.
 void limit_in_place(size_t n, size_t m, word *x, word *z, uint8_t *p) {
     struct rows s = rows(n, m, x, z, p);

@@ -20,7 +20,12 @@ pub struct Rows {
 
 impl Rows {
     pub fn of(set: &Set) -> Self {
-        Self { n: set.n, x: set.x.clone(), z: set.z.clone(), exponents: (0..set.m).map(|r| phase_at(&set.phases, r)).collect() }
+        Self {
+            n: set.n,
+            x: set.x.clone(),
+            z: set.z.clone(),
+            exponents: (0..set.m).map(|r| phase_at(&set.phases, r)).collect(),
+        }
     }
 
     pub fn are(&self, set: &Set) -> bool {
@@ -40,6 +45,7 @@ pub struct Block {
 pub type Matrix = fn(&Set, &mut [u64]);
 pub type Pairwise = fn(&Set, &Set, &mut Set);
 pub type InPlace = fn(&mut Rows);
+pub type Gate = fn(&mut Rows, usize, usize);
 pub type Reduction = fn(&mut Rows, &mut [u16]) -> usize;
 pub type Replay = fn(&mut Rows, &[u16]);
 pub type Element = fn(&Operator, Block) -> (f64, f64);
@@ -50,6 +56,7 @@ mod ways {
     pub const MATRIX: [(&str, Matrix); 0] = [];
     pub const PAIRWISE: [(&str, Pairwise); 0] = [];
     pub const IN_PLACE: [(&str, InPlace); 0] = [];
+    pub const GATES: [(&str, Gate); 0] = [];
     pub const REDUCTION: [(&str, Reduction); 0] = [];
     pub const REPLAY: [(&str, Replay); 0] = [];
     pub const ELEMENT: [(&str, Element); 0] = [];
@@ -62,6 +69,7 @@ mod ways {
     pub const MATRIX: [(&str, Matrix); 2] = [("half of the pairs", half), ("tables of 2^8, half", tables)];
     pub const PAIRWISE: [(&str, Pairwise); 1] = [("the XORs alone", xor)];
     pub const IN_PLACE: [(&str, InPlace); 1] = [("the products", in_place)];
+    pub const GATES: [(&str, Gate); 3] = [("conj_clifford, H", h), ("conj_clifford, S", s), ("conj_clifford, CX", cx)];
     pub const REDUCTION: [(&str, Reduction); 2] = [("by the rule", by_rule), ("tabled", tabled)];
     pub const REPLAY: [(&str, Replay); 1] = [("the products of the log", replay)];
     pub const ELEMENT: [(&str, Element); 1] = [("tests by words, and the sum", element)];
@@ -80,6 +88,9 @@ mod ways {
             oz: *mut u64,
         );
         fn limit_in_place(n: usize, m: usize, x: *mut u64, z: *mut u64, p: *mut u8);
+        fn limit_h(n: usize, m: usize, x: *mut u64, z: *mut u64, p: *mut u8, q: usize);
+        fn limit_s(n: usize, m: usize, x: *mut u64, z: *mut u64, p: *mut u8, q: usize);
+        fn limit_cx(n: usize, m: usize, x: *mut u64, z: *mut u64, p: *mut u8, control: usize, target: usize);
         fn limit_replay(n: usize, m: usize, x: *mut u64, z: *mut u64, p: *mut u8, log: *const u16, entries: usize);
         fn limit_by_rule(n: usize, m: usize, x: *mut u64, z: *mut u64, p: *mut u8, log: *mut u16) -> usize;
         fn limit_tabled(n: usize, m: usize, x: *mut u64, z: *mut u64, p: *mut u8, log: *mut u16) -> usize;
@@ -115,6 +126,22 @@ mod ways {
     fn in_place(s: &mut Rows) {
         let m = s.exponents.len();
         unsafe { limit_in_place(s.n, m, s.x.as_mut_ptr(), s.z.as_mut_ptr(), s.exponents.as_mut_ptr()) }
+    }
+
+    // H and S are given one qubit only.
+    fn h(s: &mut Rows, q: usize, _: usize) {
+        let m = s.exponents.len();
+        unsafe { limit_h(s.n, m, s.x.as_mut_ptr(), s.z.as_mut_ptr(), s.exponents.as_mut_ptr(), q) }
+    }
+
+    fn s(s: &mut Rows, q: usize, _: usize) {
+        let m = s.exponents.len();
+        unsafe { limit_s(s.n, m, s.x.as_mut_ptr(), s.z.as_mut_ptr(), s.exponents.as_mut_ptr(), q) }
+    }
+
+    fn cx(s: &mut Rows, control: usize, target: usize) {
+        let m = s.exponents.len();
+        unsafe { limit_cx(s.n, m, s.x.as_mut_ptr(), s.z.as_mut_ptr(), s.exponents.as_mut_ptr(), control, target) }
     }
 
     fn replay(s: &mut Rows, log: &[u16]) {

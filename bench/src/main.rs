@@ -8,7 +8,6 @@ mod c_limits;
 mod limits;
 mod ours;
 mod reducing;
-mod rest;
 mod rows;
 mod small;
 mod stack;
@@ -314,13 +313,21 @@ fn gates(set: &Set) {
         sweep(&mut ours);
         rust_sweep(&mut rust);
         agree(name, text(&ours), fields::set_text(&rust));
+        let limit = |(name, work): (&'static str, c_limits::Gate)| {
+            let mut other = c_limits::Rows::of(set);
+            let work = move |rows: &mut c_limits::Rows| (64..128).for_each(|q| work(rows, black_box(q), q + 500));
+            work(&mut other);
+            agree(name, other.are(&ours).to_string(), true.to_string());
+            (name, side(64, move || time(|| work(black_box(&mut other)))))
+        };
+        let ways = c_limits::GATES.into_iter().filter(|way| way.0 == name).map(limit).collect();
         line(
             name,
             &size(set),
             RUNS,
             side(64, || time(|| sweep(black_box(&mut ours)))),
             side(64, || time(|| rust_sweep(black_box(&mut rust)))),
-            vec![],
+            ways,
         );
     }
 }

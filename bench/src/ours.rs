@@ -9,11 +9,13 @@ fn number<T>(answer: Result<T, Refusal>) -> u8 {
     answer.map_or_else(Refusal::number, |_| 0)
 }
 
-fn lent(set: &Set) -> bawersun::Set<'_> {
+/// A set that is read.
+pub fn lent(set: &Set) -> bawersun::Set<'_> {
     bawersun::Set { n: set.n, m: set.m, x: &set.x, z: &set.z, phases: &set.phases }
 }
 
-fn changed(set: &mut Set) -> SetMut<'_> {
+/// A set that is changed.
+pub fn changed(set: &mut Set) -> SetMut<'_> {
     SetMut { n: set.n, m: set.m, x: &mut set.x, z: &mut set.z, phases: &mut set.phases }
 }
 

@@ -2,6 +2,7 @@
 
 use std::hint::black_box;
 
+use bawersun::Lists;
 use oracle::qubit::mode::SymplecticPart;
 use oracle::qubit::pauli::cmpnt_major::terms::AsViewMut;
 
@@ -9,7 +10,6 @@ use crate::c_limits::{self, Rows};
 use crate::ours::{self, Claim};
 use crate::random::Random;
 use crate::rows::Set;
-use crate::rest::{self, Lists};
 use crate::table::{self, asked, line, side, time};
 use crate::{agree, fields, matrix, pairwise, runs, size, text, QUBITS};
 
@@ -94,7 +94,7 @@ pub fn with_lists(set: &Set) {
     let lists = Lists { order: &units_of_order, listed: &units_of_listed, extra: &units_of_extra };
     let mut log = vec![0; 2 * m * m.min(2 * n) + 2];
     let (mut done, mut rust) = (set.clone(), set.terms());
-    let entries = rest::canonicalize(&mut done, lists, &mut log);
+    let entries = ours::changed(&mut done).canonicalize(lists, &mut log).expect("room enough").entries;
     let pairs = log[..2 * entries].chunks(2).map(|pair| (pair[0] as usize, pair[1] as usize)).collect::<Vec<_>>();
     let rust_pairs = rust.canonicalize(&columns, &listed, &extra).expect("rows and columns that are there");
     let whole = |pairs: &[(usize, usize)], rows: String| format!("{} {rows}", fields::log_text(pairs));
@@ -106,7 +106,7 @@ pub fn with_lists(set: &Set) {
         runs(m),
         side(1, || {
             let mut rows = set.clone();
-            time(|| _ = black_box(rest::canonicalize(black_box(&mut rows), lists, &mut log)))
+            time(|| _ = black_box(ours::changed(black_box(&mut rows)).canonicalize(lists, &mut log)))
         }),
         side(1, || {
             let mut rows = start.clone();

@@ -3,6 +3,7 @@
 use std::fmt::Debug;
 use std::hint::black_box;
 
+use bawersun::{Pauli, Undone};
 use oracle::container::coeffs::complex_sign::ComplexSign;
 use oracle::container::coeffs::traits::{NumRepr, NumReprVec};
 use oracle::container::traits::{Elements, MutRefElements, RefElements};
@@ -13,15 +14,19 @@ use oracle::qubit::pauli::cmpnt_major::terms::{AsViewMut, Terms};
 use oracle::qubit::state::cmpnt_list::CmpntList as StateList;
 use oracle::qubit::traits::{PauliWordMutRef, PauliWordRef};
 
-use crate::rest;
+use crate::ours::{changed, lent};
 use crate::rows::Set;
 use crate::table::{asked, line, side, time, RUNS};
 use crate::{agree, fields, ours, size, text};
 
+/// What is expected of every call here.
+const DONE: &str = "nothing is refused";
+
 /// How many calls a run is at least.
 const CALLS: usize = 4096;
 
-/// The number that stands for a Pauli.
+/// The Paulis that are set, ours and the Rust's.
+const OURS: [Pauli; 4] = [Pauli::I, Pauli::X, Pauli::Y, Pauli::Z];
 const PAULIS: [PauliMatrix; 4] = [PauliMatrix::I, PauliMatrix::X, PauliMatrix::Y, PauliMatrix::Z];
 
 /// The qubit that is read or set in row r.
@@ -37,24 +42,29 @@ pub fn reading(set: &Set) {
     swept(
         "get_qubit",
         set,
-        |r| rest::get_qubit(set, r, qubit(set, r)) as usize,
+        |r| lent(set).get_qubit(r, qubit(set, r)).expect(DONE) as usize,
         |r| rows.get_elem_ref(r).get_pauli(qubit(set, r)).unwrap() as usize,
     );
-    swept("count", set, |r| rest::count(set, r, 2) as usize, |r| rows.get_elem_ref(r).count(PauliMatrix::Y));
-    swept("phase_of_mul", set, |r| rest::phase_of_mul(set, r, next(r)), |r| phase(rows, r, next(r)));
+    swept(
+        "count",
+        set,
+        |r| lent(set).count(r, Pauli::Y).expect(DONE) as usize,
+        |r| rows.get_elem_ref(r).count(PauliMatrix::Y),
+    );
+    swept("phase_of_mul", set, |r| lent(set).phase_of_mul(r, next(r)).expect(DONE), |r| phase(rows, r, next(r)));
     swept(
         "commutes_with",
         set,
-        |r| rest::commutes_with(set, r, next(r)),
+        |r| lent(set).commutes_with(r, next(r)).expect(DONE),
         |r| {
             let (a, b) = rows.get_pair_refs(r, next(r));
             a.commutes_with(b)
         },
     );
     let mut out = vec![0; 6 * set.n];
-    let same = (0..m).all(|r| rest::fmt_elem(set, r, &mut out) == rows.fmt_elem(r));
+    let same = (0..m).all(|r| lent(set).fmt_elem(r, &mut out).expect(DONE) == rows.fmt_elem(r));
     agree("fmt_elem", same.to_string(), true.to_string());
-    swept("fmt_elem", set, |r| rest::fmt_elem(set, r, &mut out).len(), |r| rows.fmt_elem(r).len());
+    swept("fmt_elem", set, |r| lent(set).fmt_elem(r, &mut out).expect(DONE).len(), |r| rows.fmt_elem(r).len());
 }
 
 fn phase(rows: &CmpntList, a: usize, b: usize) -> u8 {
@@ -67,11 +77,21 @@ pub fn central(set: &Set) {
     let mut set = set.clone();
     set.x.fill(0);
     let rows = &set.terms().word_iters;
-    swept("belongs_to_centralizer", &set, |r| rest::belongs_to_centralizer(&set, r), |r| rows.belongs_to_centralizer(r));
+    swept(
+        "belongs_to_centralizer",
+        &set,
+        |r| lent(&set).belongs_to_centralizer(r).expect(DONE),
+        |r| rows.belongs_to_centralizer(r),
+    );
 }
 
 /// A sweep over all rows by each side: answers compared, then times.
-fn swept<T: PartialEq + Debug>(name: &str, set: &Set, mut ours: impl FnMut(usize) -> T, mut rust: impl FnMut(usize) -> T) {
+fn swept<T: PartialEq + Debug>(
+    name: &str,
+    set: &Set,
+    mut ours: impl FnMut(usize) -> T,
+    mut rust: impl FnMut(usize) -> T,
+) {
     if !asked(name) {
         return;
     }
@@ -99,7 +119,9 @@ pub fn setting(set: &Set) {
     let m = set.m;
     let (mut ours, mut rust) = (set.clone(), set.terms());
     let pauli = |r: usize| r % 4;
-    let sweep = |set: &mut Set| (0..m).for_each(|r| rest::set_qubit(set, black_box(r), (r * 37 + 5) % 64, pauli(r) as u8));
+    let sweep = |set: &mut Set| {
+        (0..m).for_each(|r| changed(set).set_qubit(black_box(r), (r * 37 + 5) % 64, OURS[pauli(r)]).expect(DONE))
+    };
     let rust_sweep = |set: &mut Terms<ComplexSign>| {
         (0..m).for_each(|r| {
             let mut row = set.word_iters.get_elem_mut_ref(black_box(r));
@@ -132,21 +154,23 @@ pub fn acting(set: &Set) {
     let mut state = start.clone();
     let mut ket = StateList::new(Qubits::from_count(set.n));
     ket.push_u64it(start.iter().copied());
-    let mut sweep = || (0..m).map(|r| rest::imul_state(set, black_box(r), &mut state) as usize).sum::<usize>();
-    let mut rust_sweep =
-        || (0..m).map(|r| (ket.get_elem_mut_ref(0).imul_by_op(rows.get_elem_ref(black_box(r))).0 & 3) as usize).sum::<usize>();
+    let mut sweep =
+        || (0..m).map(|r| lent(set).imul_state(black_box(r), &mut state).expect(DONE) as usize).sum::<usize>();
+    let mut rust_sweep = || {
+        (0..m)
+            .map(|r| (ket.get_elem_mut_ref(0).imul_by_op(rows.get_elem_ref(black_box(r))).0 & 3) as usize)
+            .sum::<usize>()
+    };
     agree(name, sweep().to_string(), rust_sweep().to_string());
     let sweeps = CALLS.div_ceil(m);
-    {
-        line(
-            name,
-            &size(set),
-            RUNS,
-            side(sweeps * m, || time(|| (0..sweeps).for_each(|_| _ = black_box(sweep())))),
-            side(sweeps * m, || time(|| (0..sweeps).for_each(|_| _ = black_box(rust_sweep())))),
-            vec![],
-        );
-    }
+    line(
+        name,
+        &size(set),
+        RUNS,
+        side(sweeps * m, || time(|| (0..sweeps).for_each(|_| _ = black_box(sweep())))),
+        side(sweeps * m, || time(|| (0..sweeps).for_each(|_| _ = black_box(rust_sweep())))),
+        vec![],
+    );
     agree(name, fields::hex(state.into_iter()), fields::hex(ket.elem_u64it(0)));
 }
 
@@ -173,7 +197,7 @@ pub fn undo(set: &Set) {
         }
     };
     let (mut ours, mut rust) = (done.clone(), done.terms());
-    rest::undo(&mut ours, &listed, &log);
+    assert_eq!(changed(&mut ours).undo(&listed, &[], &log), Ok(Undone::Done));
     back(&mut rust);
     agree(name, text(&ours), fields::set_text(&rust));
     agree(name, text(&ours), text(set));
@@ -184,7 +208,7 @@ pub fn undo(set: &Set) {
         crate::runs(m),
         side(1, || {
             let mut rows = done.clone();
-            time(|| rest::undo(black_box(&mut rows), &listed, &log))
+            time(|| assert_eq!(changed(black_box(&mut rows)).undo(&listed, &[], &log), Ok(Undone::Done)))
         }),
         side(1, || {
             let mut rows = start.clone();
