@@ -9,16 +9,13 @@ use Rattle.pwl.specs.declared.Opened.{Opened}
 use Rattle.pwl.specs.declared.Opened.the-variants as opened
 use Rattle.pwl.specs.declared.Written.{Written}
 use Rattle.pwl.specs.declared.Written.the-variants as written
+use Rattle.bawersun.specs.Told.{Seen, alone, with}
 
 -- ---- a file that is opened or read: its front
 
-abbrev pub openedNumber : Opened → ℕ
-openedNumber (opened.Whole f) = 0
-openedNumber (opened.Refused k) = k
-
-abbrev pub frontOr : Front → Opened → Front
-frontOr old (opened.Whole f) = f
-frontOr old (opened.Refused k) = old
+abbrev pub openedSeen : Opened → Seen Front
+openedSeen (opened.Whole f) = with 0 f
+openedSeen (opened.Refused k) = alone k
 
 abbrev Cell : Type 0
 Cell = RefT ℕ
@@ -33,10 +30,6 @@ frontAfter n m order listed extra entries =
 
 -- ---- a file that is written: the length of its image
 
-abbrev pub imageNumber : Written → ℕ
-imageNumber (written.Length l) = 0
-imageNumber (written.Refused k) = k
-
-abbrev pub bytesOr : ℕ → Written → ℕ
-bytesOr old (written.Length l) = l
-bytesOr old (written.Refused k) = old
+abbrev pub imageSeen : Written → Seen ℕ
+imageSeen (written.Length l) = with 0 l
+imageSeen (written.Refused k) = alone k

@@ -51,10 +51,23 @@ pub record Told {A : Type 0} (Call Seen : A → Type 0) : Type 0 where
 abbrev pub Exactly : {A : Type 0} → A → A → Type 0
 Exactly b a = a ≡ b
 
--- what is seen of an answer that has one value: the number returned, and what stands in the value's place before and after
-pub record Gives {A B : Type 0} (numbered : A → ℕ) (valued : B → A → B) (old new : B) (r : ℕ) (a : A) : Type 0 where
-  pub number : r ≡ numbered a
-  pub value : new ≡ valued old a
+-- what a caller sees of an answer: a number alone, or a number with a value
+pub data Seen (B : Type 0) : Type 0 where
+  alone : ℕ → Seen B
+  with : ℕ → B → Seen B
+
+abbrev pub numberIn : {B : Type 0} → Seen B → ℕ
+numberIn (alone k) = k
+numberIn (with k b) = k
+
+abbrev pub valueIn : {B : Type 0} → B → Seen B → B
+valueIn old (alone k) = old
+valueIn old (with k b) = b
+
+-- the number returned, and what stands in the value's place before and after
+pub record Gives {A B : Type 0} (seen : A → Seen B) (old new : B) (r : ℕ) (a : A) : Type 0 where
+  pub number : r ≡ numberIn (seen a)
+  pub value : new ≡ valueIn old (seen a)
 
 -- ---- calls that are done or refused
 
@@ -80,66 +93,36 @@ pauliOf k = cond (eqb k 1) X (cond (eqb k 2) Y (cond (eqb k 3) Z I))
 abbrev pub rowFor : ℕ → ℕ → ℕ → ℕ
 rowFor pauli m row = cond (ltb 3 pauli) m row
 
-abbrev pub gotNumber : Got → ℕ
-gotNumber (got.Is p) = 0
-gotNumber (got.Refused k) = k
+abbrev pub gotSeen : Got → Seen ℕ
+gotSeen (got.Is p) = with 0 (pauliNumber p)
+gotSeen (got.Refused k) = alone k
 
-abbrev pub pauliOr : ℕ → Got → ℕ
-pauliOr old (got.Is p) = pauliNumber p
-pauliOr old (got.Refused k) = old
+-- ---- a count; a question, 1 for yes and 0 for no; the length of a text
 
--- ---- a count
-
-abbrev pub tallyNumber : Tally → ℕ
-tallyNumber (tally.Number c) = 0
-tallyNumber (tally.Refused k) = k
-
-abbrev pub countOr : ℕ → Tally → ℕ
-countOr old (tally.Number c) = c
-countOr old (tally.Refused k) = old
-
--- ---- a question: 1 for yes, 0 for no
+abbrev pub tallySeen : Tally → Seen ℕ
+tallySeen (tally.Number c) = with 0 c
+tallySeen (tally.Refused k) = alone k
 
 abbrev pub truthBit : Bool → ℕ
 truthBit b = cond b 1 0
 
-abbrev pub truthNumber : Truth → ℕ
-truthNumber (truth.Is b) = 0
-truthNumber (truth.Refused k) = k
+abbrev pub truthSeen : Truth → Seen ℕ
+truthSeen (truth.Is b) = with 0 (truthBit b)
+truthSeen (truth.Refused k) = alone k
 
-abbrev pub truthOr : ℕ → Truth → ℕ
-truthOr old (truth.Is b) = truthBit b
-truthOr old (truth.Refused k) = old
+abbrev pub writtenSeen : Written → Seen ℕ
+writtenSeen (written.Length l) = with 0 l
+writtenSeen (written.Refused k) = alone k
 
--- ---- the length of a text
+-- ---- the exponent of a product; the number of clashes of a product in place
 
-abbrev pub writtenNumber : Written → ℕ
-writtenNumber (written.Length l) = 0
-writtenNumber (written.Refused k) = k
+abbrev pub phaseSeen : Phase → Seen ℕ
+phaseSeen (phase.Exponent e) = with 0 (e .0)
+phaseSeen (phase.Refused k) = alone k
 
-abbrev pub lengthOr : ℕ → Written → ℕ
-lengthOr old (written.Length l) = l
-lengthOr old (written.Refused k) = old
-
--- ---- the exponent of a product
-
-abbrev pub phaseNumber : Phase → ℕ
-phaseNumber (phase.Exponent e) = 0
-phaseNumber (phase.Refused k) = k
-
-abbrev pub exponentOr : ℕ → Phase → ℕ
-exponentOr old (phase.Exponent e) = e .0
-exponentOr old (phase.Refused k) = old
-
--- ---- a product in place: the number of clashes
-
-abbrev pub productNumber : Clashes → ℕ
-productNumber (clash.Number c) = 0
-productNumber (clash.Refused k) = k
-
-abbrev pub clashesOr : ℕ → Clashes → ℕ
-clashesOr old (clash.Number c) = c
-clashesOr old (clash.Refused k) = old
+abbrev pub clashesSeen : Clashes → Seen ℕ
+clashesSeen (clash.Number c) = with 0 c
+clashesSeen (clash.Refused k) = alone k
 
 -- ---- a reduction: the entry count and t, the capacity (refusal 8) in the place of the count
 
@@ -169,100 +152,48 @@ badEntry = 253
 abbrev pub notReduced : ℕ
 notReduced = 254
 
-abbrev pub verdictNumber : Verdict → ℕ
-verdictNumber (verdict.BadEntry k) = badEntry
-verdictNumber (verdict.Differs k) = differing
-verdictNumber verdict.NotReduced = notReduced
-verdictNumber verdict.Yes = 0
-verdictNumber (verdict.Refused k) = k
-
-abbrev pub placeOr : ℕ → Verdict → ℕ
-placeOr old (verdict.BadEntry k) = k
-placeOr old (verdict.Differs k) = k
-placeOr old verdict.NotReduced = old
-placeOr old verdict.Yes = old
-placeOr old (verdict.Refused k) = old
+abbrev pub verdictSeen : Verdict → Seen ℕ
+verdictSeen (verdict.BadEntry k) = with badEntry k
+verdictSeen (verdict.Differs k) = with differing k
+verdictSeen verdict.NotReduced = alone notReduced
+verdictSeen verdict.Yes = alone 0
+verdictSeen (verdict.Refused k) = alone k
 
 abbrev pub CheckedOn : Task → Claim → Mem → Verdict → Type 0
 CheckedOn T L left v = Checked T L v left
 
 -- ---- a log walked back: 0 for done, else the refusal's number or the bad entry's, with its place
 
-abbrev pub undoneNumber : Undone → ℕ
-undoneNumber (undone.BadEntry k) = badEntry
-undoneNumber undone.Done = 0
-undoneNumber (undone.Refused k) = k
+abbrev pub undoneSeen : Undone → Seen ℕ
+undoneSeen (undone.BadEntry k) = with badEntry k
+undoneSeen undone.Done = alone 0
+undoneSeen (undone.Refused k) = alone k
 
-abbrev pub entryOr : ℕ → Undone → ℕ
-entryOr old (undone.BadEntry k) = k
-entryOr old undone.Done = old
-entryOr old (undone.Refused k) = old
+-- ---- a matrix element: the two parts of the sum, in floats or whole numbers, or 255 for no block
 
--- ---- a matrix element: the two parts of the sum, or 255 for no block
+pub record Parts (B : Type 0) : Type 0 where
+  pub real : B
+  pub imag : B
+
+abbrev pub parts : {B : Type 0} → B → B → Parts B
+parts re im = record { real = re; imag = im }
 
 abbrev pub noBlock : ℕ
 noBlock = 255
 
-abbrev pub elementNumber : Element → ℕ
-elementNumber (element.Sum re im) = 0
-elementNumber element.NoBlock = noBlock
-elementNumber (element.Refused k) = k
+abbrev pub elementSeen : Element → Seen (Parts Float)
+elementSeen (element.Sum re im) = with 0 (parts re im)
+elementSeen element.NoBlock = alone noBlock
+elementSeen (element.Refused k) = alone k
 
-abbrev pub realOr : Float → Element → Float
-realOr old (element.Sum re im) = re
-realOr old element.NoBlock = old
-realOr old (element.Refused k) = old
+abbrev pub wholeSeen : Whole → Seen (Parts ℤ)
+wholeSeen (whole.Sum re im) = with 0 (parts re im)
+wholeSeen whole.NoBlock = alone noBlock
+wholeSeen (whole.Refused k) = alone k
 
-abbrev pub imagOr : Float → Element → Float
-imagOr old (element.Sum re im) = im
-imagOr old element.NoBlock = old
-imagOr old (element.Refused k) = old
-
-pub record Parted (re im re′ im′ : Float) (r : ℕ) (a : Element) : Type 0 where
-  pub number : r ≡ elementNumber a
-  pub real : re′ ≡ realOr re a
-  pub imag : im′ ≡ imagOr im a
-
--- ---- the same in whole numbers
-
-abbrev pub wholeNumber : Whole → ℕ
-wholeNumber (whole.Sum re im) = 0
-wholeNumber whole.NoBlock = noBlock
-wholeNumber (whole.Refused k) = k
-
-abbrev pub wholeReal : ℤ → Whole → ℤ
-wholeReal old (whole.Sum re im) = re
-wholeReal old whole.NoBlock = old
-wholeReal old (whole.Refused k) = old
-
-abbrev pub wholeImag : ℤ → Whole → ℤ
-wholeImag old (whole.Sum re im) = im
-wholeImag old whole.NoBlock = old
-wholeImag old (whole.Refused k) = old
-
-pub record Summed (re im re′ im′ : ℤ) (r : ℕ) (a : Whole) : Type 0 where
-  pub number : r ≡ wholeNumber a
-  pub real : re′ ≡ wholeReal re a
-  pub imag : im′ ≡ wholeImag im a
-
--- ---- a sum over pairs: the whole numbers of the sum
-
-abbrev pub totalNumber : Total → ℕ
-totalNumber (total.Sum re im) = 0
-totalNumber (total.Refused k) = k
-
-abbrev pub totalReal : ℤ → Total → ℤ
-totalReal old (total.Sum re im) = re
-totalReal old (total.Refused k) = old
-
-abbrev pub totalImag : ℤ → Total → ℤ
-totalImag old (total.Sum re im) = im
-totalImag old (total.Refused k) = old
-
-pub record Totalled (re im re′ im′ : ℤ) (r : ℕ) (a : Total) : Type 0 where
-  pub number : r ≡ totalNumber a
-  pub real : re′ ≡ totalReal re a
-  pub imag : im′ ≡ totalImag im a
+abbrev pub totalSeen : Total → Seen (Parts ℤ)
+totalSeen (total.Sum re im) = with 0 (parts re im)
+totalSeen (total.Refused k) = alone k
 
 -- ---- gates, by the numbers of their qubits
 

@@ -2,7 +2,7 @@
 ghost use Rattle.pwl.specs.Calls.{opened, Writes, Reads};
 ghost use Rattle.pwl.specs.Lent.{runBefore, outputsBefore, outputsAfter};
 ghost use Rattle.bawersun.specs.Told.{Told, Exactly, Gives};
-ghost use Rattle.bawersun.specs.Files.{openedNumber, frontOr, frontBefore, frontAfter, imageNumber, bytesOr};
+ghost use Rattle.bawersun.specs.Files.{openedSeen, frontBefore, frontAfter, imageSeen};
 use pwl::Opened;
 use pwl::Written;
 
@@ -16,7 +16,7 @@ fn fronted(
     extra: &mut usize,
     entries: &mut usize,
 ) -> u8
-    ensures { λ r. ⌜ Gives openedNumber frontOr (frontBefore n m order listed extra entries) (frontAfter n m order listed extra entries) r a ⌝ }
+    ensures { λ r. ⌜ Gives openedSeen (frontBefore n m order listed extra entries) (frontAfter n m order listed extra entries) r a ⌝ }
 {
     match a {
         Opened::Whole(f) => {
@@ -43,14 +43,14 @@ pub extern "C" fn bawersun_pwl_open(
     entries: &mut usize,
 ) -> u8
     ensures { λ r. ⌜ Told (Exactly (opened (now (file .entry))))
-        (Gives openedNumber frontOr (frontBefore n m order listed extra entries) (frontAfter n m order listed extra entries) r) ⌝ }
+        (Gives openedSeen (frontBefore n m order listed extra entries) (frontAfter n m order listed extra entries) r) ⌝ }
 {
     fronted(pwl::open(file), n, m, order, listed, extra, entries)
 }
 
 // What is seen of a file that is written; where there is no length, the number stays.
 fn imaged(a: Written, length: &mut usize) -> u8
-    ensures { λ r. ⌜ Gives imageNumber bytesOr (now (length .entry)) (now (length .exit)) r a ⌝ }
+    ensures { λ r. ⌜ Gives imageSeen (now (length .entry)) (now (length .exit)) r a ⌝ }
 {
     match a {
         Written::Length(l) => {
@@ -79,7 +79,7 @@ pub extern "C" fn bawersun_pwl_write(
     length: &mut usize,
 ) -> u8
     ensures { λ r. ⌜ Told (Writes (runBefore n m order listed extra x z phases log cx cz cphases) (now (out .entry)) (now (out .exit)))
-        (Gives imageNumber bytesOr (now (length .entry)) (now (length .exit)) r) ⌝ }
+        (Gives imageSeen (now (length .entry)) (now (length .exit)) r) ⌝ }
 {
     let a = pwl::write(
         n,
@@ -115,7 +115,7 @@ pub extern "C" fn bawersun_pwl_read(
     entries: &mut usize,
 ) -> u8
     ensures { λ r. ⌜ Told (Reads (now (file .entry)) (outputsBefore units x z phases claimed) (outputsAfter units x z phases claimed))
-        (Gives openedNumber frontOr (frontBefore n m order listed extra entries) (frontAfter n m order listed extra entries) r) ⌝ }
+        (Gives openedSeen (frontBefore n m order listed extra entries) (frontAfter n m order listed extra entries) r) ⌝ }
 {
     let a = pwl::read(file, units, x, z, phases, claimed);
     fronted(a, n, m, order, listed, extra, entries)

@@ -8,7 +8,7 @@ ghost use Rattle.encoding.specs.Words.{word, bits};
 ghost use Rattle.encoding.specs.Lent.{before, after};
 ghost use Rattle.cmpnt_list.specs.Calls.{getQubit, SetQubit, countIn, phaseOfMul, commutesWith, belongsToCentralizer};
 ghost use Rattle.cmpnt_list.specs.Calls.{CompatibilityMatrix, MulPairwise, ImulState};
-ghost use Rattle.terms.specs.Calls.{Multiplies, Reduces, ReducesAll, reducedNumber};
+ghost use Rattle.terms.specs.Calls.{Multiplies, Reduces, ReducesAll};
 ghost use Rattle.replay.specs.Check.{task, claim};
 ghost use Rattle.replay.specs.Undo.{Undoes};
 ghost use Rattle.row_text.specs.Calls.{FmtElem, ParseElem};
@@ -18,11 +18,8 @@ ghost use Rattle.mat_elem.specs.whole.Sums as whole;
 ghost use Rattle.mat_elem.specs.Lent.{lent, termsLent, stateLent};
 ghost use Rattle.mat_elem.specs.states.Vectors as states;
 ghost use Rattle.bawersun.specs.Told.{Told, Exactly, Gives, Number, numberOf};
-ghost use Rattle.bawersun.specs.Told.{pauliNumber, pauliOf, rowFor, gotNumber, pauliOr, tallyNumber, countOr};
-ghost use Rattle.bawersun.specs.Told.{truthBit, truthNumber, truthOr, writtenNumber, lengthOr, phaseNumber, exponentOr, productNumber, clashesOr};
-ghost use Rattle.bawersun.specs.Told.{Counted, entriesOr, pivotsOr, verdictNumber, placeOr, CheckedOn, undoneNumber, entryOr, hOf, sOf, cxOf};
-ghost use Rattle.bawersun.specs.Told.{Parted, elementNumber, realOr, imagOr, Summed, wholeNumber, wholeReal, wholeImag};
-ghost use Rattle.bawersun.specs.Told.{Totalled, totalNumber, totalReal, totalImag};
+ghost use Rattle.bawersun.specs.Told.{pauliNumber, pauliOf, rowFor, gotSeen, tallySeen, truthBit, truthSeen, writtenSeen, phaseSeen, clashesSeen};
+ghost use Rattle.bawersun.specs.Told.{Counted, verdictSeen, CheckedOn, undoneSeen, hOf, sOf, cxOf, parts, elementSeen, wholeSeen, totalSeen};
 use cmpnt_list::Got;
 use cmpnt_list::Phase;
 use cmpnt_list::Tally;
@@ -100,7 +97,7 @@ fn row_for(pauli: u8, m: usize, row: usize) -> usize
 
 // What is seen of a qubit that is read: where there is no answer, the number stays.
 fn read(a: Got, pauli: &mut u8) -> u8
-    ensures { λ r. ⌜ Gives gotNumber pauliOr (now (pauli .entry)) (now (pauli .exit)) r a ⌝ }
+    ensures { λ r. ⌜ Gives gotSeen (now (pauli .entry)) (now (pauli .exit)) r a ⌝ }
 {
     match a {
         Got::Is(p) => {
@@ -123,7 +120,7 @@ pub extern "C" fn bawersun_get_qubit(
     pauli: &mut u8,
 ) -> u8
     ensures { λ r. ⌜ Told (Exactly (getQubit n (before m x z phases) row qubit))
-        (Gives gotNumber pauliOr (now (pauli .entry)) (now (pauli .exit)) r) ⌝ }
+        (Gives gotSeen (now (pauli .entry)) (now (pauli .exit)) r) ⌝ }
 {
     let a = cmpnt_list::get_qubit(n, m, x, z, phases, RowNumber(row), QubitNumber(qubit));
     read(a, pauli)
@@ -149,7 +146,7 @@ pub extern "C" fn bawersun_set_qubit(
 
 // What is seen of a count.
 fn tallied(a: Tally, count: &mut u64) -> u8
-    ensures { λ r. ⌜ Gives tallyNumber countOr (now (count .entry)) (now (count .exit)) r a ⌝ }
+    ensures { λ r. ⌜ Gives tallySeen (now (count .entry)) (now (count .exit)) r a ⌝ }
 {
     match a {
         Tally::Number(c) => {
@@ -172,7 +169,7 @@ pub extern "C" fn bawersun_count(
     count: &mut u64,
 ) -> u8
     ensures { λ r. ⌜ Told (Exactly (countIn n (before m x z phases) (rowFor pauli m row) (pauliOf pauli)))
-        (Gives tallyNumber countOr (now (count .entry)) (now (count .exit)) r) ⌝ }
+        (Gives tallySeen (now (count .entry)) (now (count .exit)) r) ⌝ }
 {
     let k = row_for(pauli, m, row);
     let a = cmpnt_list::count(n, m, x, z, phases, RowNumber(k), pauli_of(pauli));
@@ -189,7 +186,7 @@ fn truth_bit(b: bool) -> u8
 
 // What is seen of a question.
 fn answered(a: Truth, truth: &mut u8) -> u8
-    ensures { λ r. ⌜ Gives truthNumber truthOr (now (truth .entry)) (now (truth .exit)) r a ⌝ }
+    ensures { λ r. ⌜ Gives truthSeen (now (truth .entry)) (now (truth .exit)) r a ⌝ }
 {
     match a {
         Truth::Is(b) => {
@@ -212,7 +209,7 @@ pub extern "C" fn bawersun_commutes_with(
     truth: &mut u8,
 ) -> u8
     ensures { λ r. ⌜ Told (Exactly (commutesWith n (before m x z phases) a b))
-        (Gives truthNumber truthOr (now (truth .entry)) (now (truth .exit)) r) ⌝ }
+        (Gives truthSeen (now (truth .entry)) (now (truth .exit)) r) ⌝ }
 {
     let t = cmpnt_list::commutes_with(n, m, x, z, phases, RowNumber(a), RowNumber(b));
     answered(t, truth)
@@ -229,7 +226,7 @@ pub extern "C" fn bawersun_belongs_to_centralizer(
     truth: &mut u8,
 ) -> u8
     ensures { λ r. ⌜ Told (Exactly (belongsToCentralizer n (before m x z phases) row))
-        (Gives truthNumber truthOr (now (truth .entry)) (now (truth .exit)) r) ⌝ }
+        (Gives truthSeen (now (truth .entry)) (now (truth .exit)) r) ⌝ }
 {
     let t = cmpnt_list::belongs_to_centralizer(n, m, x, z, phases, RowNumber(row));
     answered(t, truth)
@@ -272,7 +269,7 @@ pub extern "C" fn bawersun_cmpnts_mul_pairwise(
 
 // What is seen of the exponent of a product or an action.
 fn phased(a: Phase, exponent: &mut u8) -> u8
-    ensures { λ r. ⌜ Gives phaseNumber exponentOr (now (exponent .entry)) (now (exponent .exit)) r a ⌝ }
+    ensures { λ r. ⌜ Gives phaseSeen (now (exponent .entry)) (now (exponent .exit)) r a ⌝ }
 {
     match a {
         Phase::Exponent(e) => {
@@ -295,7 +292,7 @@ pub extern "C" fn bawersun_phase_of_mul(
     exponent: &mut u8,
 ) -> u8
     ensures { λ r. ⌜ Told (Exactly (phaseOfMul n (before m x z phases) a b))
-        (Gives phaseNumber exponentOr (now (exponent .entry)) (now (exponent .exit)) r) ⌝ }
+        (Gives phaseSeen (now (exponent .entry)) (now (exponent .exit)) r) ⌝ }
 {
     let e = cmpnt_list::phase_of_mul(n, m, x, z, phases, RowNumber(a), RowNumber(b));
     phased(e, exponent)
@@ -313,7 +310,7 @@ pub extern "C" fn bawersun_phase_of_mul_by_table(
     exponent: &mut u8,
 ) -> u8
     ensures { λ r. ⌜ Told (Exactly (phaseOfMul n (before m x z phases) a b))
-        (Gives phaseNumber exponentOr (now (exponent .entry)) (now (exponent .exit)) r) ⌝ }
+        (Gives phaseSeen (now (exponent .entry)) (now (exponent .exit)) r) ⌝ }
 {
     let e = cmpnt_list::phase_of_mul_by_table(n, m, x, z, phases, RowNumber(a), RowNumber(b));
     phased(e, exponent)
@@ -331,7 +328,7 @@ pub extern "C" fn bawersun_imul_state(
     exponent: &mut u8,
 ) -> u8
     ensures { λ r. ⌜ Told (ImulState n (before m x z phases) row (now (state .entry)) (now (state .exit)))
-        (Gives phaseNumber exponentOr (now (exponent .entry)) (now (exponent .exit)) r) ⌝ }
+        (Gives phaseSeen (now (exponent .entry)) (now (exponent .exit)) r) ⌝ }
 {
     let e = cmpnt_list::imul_state(n, m, x, z, phases, RowNumber(row), state);
     phased(e, exponent)
@@ -339,7 +336,7 @@ pub extern "C" fn bawersun_imul_state(
 
 // What is seen of a product in place.
 fn multiplied(a: Clashes, clashes: &mut u16) -> u8
-    ensures { λ r. ⌜ Gives productNumber clashesOr (now (clashes .entry)) (now (clashes .exit)) r a ⌝ }
+    ensures { λ r. ⌜ Gives clashesSeen (now (clashes .entry)) (now (clashes .exit)) r a ⌝ }
 {
     match a {
         Clashes::Number(c) => {
@@ -362,7 +359,7 @@ pub extern "C" fn bawersun_imul(
     clashes: &mut u16,
 ) -> u8
     ensures { λ r. ⌜ Told (Multiplies n a b (before m x z phases) (after m x z phases))
-        (Gives productNumber clashesOr (now (clashes .entry)) (now (clashes .exit)) r) ⌝ }
+        (Gives clashesSeen (now (clashes .entry)) (now (clashes .exit)) r) ⌝ }
 {
     let d = terms::imul(n, m, x, z, phases, RowNumber(a), RowNumber(b));
     multiplied(d, clashes)
@@ -427,7 +424,7 @@ pub extern "C" fn bawersun_canonicalize_all(
 
 // What is seen of a verdict: where it names no place, the number stays.
 fn placed(a: Verdict, place: &mut usize) -> u8
-    ensures { λ r. ⌜ Gives verdictNumber placeOr (now (place .entry)) (now (place .exit)) r a ⌝ }
+    ensures { λ r. ⌜ Gives verdictSeen (now (place .entry)) (now (place .exit)) r a ⌝ }
 {
     match a {
         Verdict::BadEntry(k) => {
@@ -462,7 +459,7 @@ pub extern "C" fn bawersun_check(
 ) -> u8
     ensures { λ r. ⌜ Told (CheckedOn (task n (before m x z phases) (now (order .entry)) (now (listed .entry)) (now (extra .entry)))
         (claim (now (log .entry)) (before m cx cz cphases)) (after m x z phases))
-        (Gives verdictNumber placeOr (now (place .entry)) (now (place .exit)) r) ⌝ }
+        (Gives verdictSeen (now (place .entry)) (now (place .exit)) r) ⌝ }
 {
     let v = replay::check(
         n,
@@ -483,7 +480,7 @@ pub extern "C" fn bawersun_check(
 
 // What is seen of walking back.
 fn walked(a: Undone, place: &mut usize) -> u8
-    ensures { λ r. ⌜ Gives undoneNumber entryOr (now (place .entry)) (now (place .exit)) r a ⌝ }
+    ensures { λ r. ⌜ Gives undoneSeen (now (place .entry)) (now (place .exit)) r a ⌝ }
 {
     match a {
         Undone::BadEntry(k) => {
@@ -508,7 +505,7 @@ pub extern "C" fn bawersun_undo(
     place: &mut usize,
 ) -> u8
     ensures { λ r. ⌜ Told (Undoes n (now (listed .entry)) (now (extra .entry)) (now (log .entry)) (before m x z phases) (after m x z phases))
-        (Gives undoneNumber entryOr (now (place .entry)) (now (place .exit)) r) ⌝ }
+        (Gives undoneSeen (now (place .entry)) (now (place .exit)) r) ⌝ }
 {
     let a = replay::undo::undo(n, m, x, z, phases, listed, extra, log);
     walked(a, place)
@@ -518,7 +515,7 @@ pub extern "C" fn bawersun_undo(
 
 // What is seen of a text that is written.
 fn sized(a: Written, length: &mut usize) -> u8
-    ensures { λ r. ⌜ Gives writtenNumber lengthOr (now (length .entry)) (now (length .exit)) r a ⌝ }
+    ensures { λ r. ⌜ Gives writtenSeen (now (length .entry)) (now (length .exit)) r a ⌝ }
 {
     match a {
         Written::Length(l) => {
@@ -541,7 +538,7 @@ pub extern "C" fn bawersun_fmt_elem(
     length: &mut usize,
 ) -> u8
     ensures { λ r. ⌜ Told (FmtElem n (before m x z phases) row (now (out .entry)) (now (out .exit)))
-        (Gives writtenNumber lengthOr (now (length .entry)) (now (length .exit)) r) ⌝ }
+        (Gives writtenSeen (now (length .entry)) (now (length .exit)) r) ⌝ }
 {
     let a = row_text::fmt_elem(n, m, x, z, phases, RowNumber(row), out);
     sized(a, length)
@@ -617,7 +614,7 @@ pub extern "C" fn bawersun_conj_cx(
 
 // What is seen of a matrix element: where there is no sum, the parts stay.
 fn parted(a: Element, real: &mut f64, imag: &mut f64) -> u8
-    ensures { λ r. ⌜ Parted (now (real .entry)) (now (imag .entry)) (now (real .exit)) (now (imag .exit)) r a ⌝ }
+    ensures { λ r. ⌜ Gives elementSeen (parts (now (real .entry)) (now (imag .entry))) (parts (now (real .exit)) (now (imag .exit))) r a ⌝ }
 {
     match a {
         Element::Sum(re, im) => {
@@ -643,7 +640,7 @@ pub extern "C" fn bawersun_mat_elem_cmpnts_from_presorted(
     imag: &mut f64,
 ) -> u8
     ensures { λ r. ⌜ Told (MatElem n (now (x .entry)) (now (z .entry)) (now (re .entry)) (now (im .entry)) bra ket)
-        (Parted (now (real .entry)) (now (imag .entry)) (now (real .exit)) (now (imag .exit)) r) ⌝ }
+        (Gives elementSeen (parts (now (real .entry)) (now (imag .entry))) (parts (now (real .exit)) (now (imag .exit))) r) ⌝ }
 {
     let a = mat_elem::float::mat_elem_cmpnts_from_presorted(n, x, z, re, im, bra, ket);
     parted(a, real, imag)
@@ -651,7 +648,7 @@ pub extern "C" fn bawersun_mat_elem_cmpnts_from_presorted(
 
 // What is seen of an element in whole numbers.
 fn summed(a: mat_elem::whole::Element, real: &mut i64, imag: &mut i64) -> u8
-    ensures { λ r. ⌜ Summed (now (real .entry)) (now (imag .entry)) (now (real .exit)) (now (imag .exit)) r a ⌝ }
+    ensures { λ r. ⌜ Gives wholeSeen (parts (now (real .entry)) (now (imag .entry))) (parts (now (real .exit)) (now (imag .exit))) r a ⌝ }
 {
     match a {
         mat_elem::whole::Element::Sum(re, im) => {
@@ -677,7 +674,7 @@ pub extern "C" fn bawersun_mat_elem_cmpnts_from_presorted_whole(
     imag: &mut i64,
 ) -> u8
     ensures { λ r. ⌜ Told (whole.MatElem n (lent x) (lent z) (lent re) (lent im) bra ket)
-        (Summed (now (real .entry)) (now (imag .entry)) (now (real .exit)) (now (imag .exit)) r) ⌝ }
+        (Gives wholeSeen (parts (now (real .entry)) (now (imag .entry))) (parts (now (real .exit)) (now (imag .exit))) r) ⌝ }
 {
     let a = mat_elem::whole::mat_elem_cmpnts_from_presorted(n, x, z, re, im, bra, ket);
     summed(a, real, imag)
@@ -685,7 +682,7 @@ pub extern "C" fn bawersun_mat_elem_cmpnts_from_presorted_whole(
 
 // What is seen of a sum over pairs.
 fn totalled(a: Total, real: &mut i64, imag: &mut i64) -> u8
-    ensures { λ r. ⌜ Totalled (now (real .entry)) (now (imag .entry)) (now (real .exit)) (now (imag .exit)) r a ⌝ }
+    ensures { λ r. ⌜ Gives totalSeen (parts (now (real .entry)) (now (imag .entry))) (parts (now (real .exit)) (now (imag .exit))) r a ⌝ }
 {
     match a {
         Total::Sum(re, im) => {
@@ -714,7 +711,7 @@ pub extern "C" fn bawersun_mat_elem_from_presorted(
     imag: &mut i64,
 ) -> u8
     ensures { λ r. ⌜ Told (states.MatElem n (termsLent x z re im) (stateLent bras bre bim) (stateLent kets kre kim))
-        (Totalled (now (real .entry)) (now (imag .entry)) (now (real .exit)) (now (imag .exit)) r) ⌝ }
+        (Gives totalSeen (parts (now (real .entry)) (now (imag .entry))) (parts (now (real .exit)) (now (imag .exit))) r) ⌝ }
 {
     let a = mat_elem::states::mat_elem_from_presorted(
         n,

@@ -11,7 +11,13 @@ returns c =
     let g = c .before .a .given in
     let f : SFits w64 (g .0 .0) = search (needs, c .known-told .given) in
     let h : SFits w64 (g .0 .1 .0) = search (needs, c .known-told .given) in
-    rw (g .1, toZ-ofZ f, toZ-ofZ h) (record { number = refl; real = refl; imag = refl })
+    rw (g .1, toZ-ofZ f, toZ-ofZ h) (record { number = refl; value = refl })
+
+returns-2 : tie.Need-returns-2
+returns-2 c = rw (c .enum-told .given .1) (record { number = refl; value = refl })
+
+returns-3 : tie.Need-returns-3
+returns-3 c = rw (c .before .a2 .given .1) (record { number = refl; value = refl })
 
 pub summed-spec : {M : Type 1} → statement M
-summed-spec = tie.close (tie.spec (λ c. search needs) (λ c. search needs) (λ c. search needs) returns (λ c. search needs) (λ c. search needs))
+summed-spec = tie.close (tie.spec (λ c. search needs) (λ c. search needs) (λ c. search needs) returns returns-2 returns-3)
