@@ -109,13 +109,16 @@ static void reduction(const struct set *s)
 {
     struct set done = *s, listed_done = *s, work = *s;
     uint16_t order[2 * QUBITS], listed[ROWS], log[2 * ENTRIES], other[2 * ENTRIES];
-    size_t entries = 99, t = 99, other_entries = 99, other_t = 99, place = 99;
+    uint8_t text[32];
+    size_t entries = 99, t = 99, other_entries = 99, other_t = 99, place = 99, length = 0;
     for (size_t c = 0; c < 2 * QUBITS; c++)
         order[c] = (uint16_t)c;
     for (size_t row = 0; row < ROWS; row++)
         listed[row] = (uint16_t)row;
     look("canonicalize_all", bawersun_canonicalize_all(QUBITS, ROWS, READ(&done), log, 2 * ENTRIES, &entries, &t), BAWERSUN_DONE);
     look("pivots", t, ROWS);
+    look("fmt_elem", bawersun_fmt_elem(QUBITS, ROWS, READ(&done), 0, text, sizeof text, &length), BAWERSUN_DONE);
+    look("the first row", length == 11 && memcmp(text, "Y0 Z1 Z3 Y4", 11) == 0 && BAWERSUN_PHASE(done.phases, 0) == 0, 1);
     look("canonicalize", bawersun_canonicalize(QUBITS, ROWS, READ(&listed_done), order, 2 * QUBITS, listed, ROWS, NULL, 0, other, 2 * ENTRIES,
         &other_entries, &other_t), BAWERSUN_DONE);
     look("the same rows", same(&done, &listed_done), 1);
@@ -261,8 +264,10 @@ static void products(const struct set *s)
     look("conj_h", bawersun_conj_h(QUBITS, ROWS, READ(&work), 0), BAWERSUN_DONE);
     look("conj_cx", bawersun_conj_cx(QUBITS, ROWS, READ(&work), 0, 1), BAWERSUN_DONE);
     look("conj_cx", bawersun_conj_cx(QUBITS, ROWS, READ(&work), 0, 1), BAWERSUN_DONE);
-    for (int i = 0; i < 4; i++)
+    for (int i = 0; i < 4; i++) {
         look("conj_s", bawersun_conj_s(QUBITS, ROWS, READ(&work), 2), BAWERSUN_DONE);
+        look("X is Y, -X, -Y, X", BAWERSUN_PHASE(work.phases, 2), i == 1 || i == 2 ? 2 : 0);
+    }
     look("H and CX twice, S four times", same(&work, s), 1);
     look("control and target are one", bawersun_conj_cx(QUBITS, ROWS, READ(&work), 1, 1), BAWERSUN_ONE_QUBIT);
     look("X times Y", mul_op_op_phase_u64(1, 0, 1, 1), 1);

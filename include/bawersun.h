@@ -42,9 +42,10 @@ extern "C" {
 #define BAWERSUN_MAX_TERMS 65536       /* X words of terms */
 #define BAWERSUN_MAX_STATES 256        /* words of a state of mat_elem_from_presorted */
 
-/* The words of a row of n qubits, and the phase words of m rows. */
+/* The words of a row of n qubits, the phase words of m rows, and the phase of row r. */
 #define BAWERSUN_WORDS(n) (((n) + 63) / 64)
 #define BAWERSUN_PHASE_WORDS(m) (((m) + 31) / 32)
+#define BAWERSUN_PHASE(phases, r) ((unsigned)((phases)[(r) / 32] >> (2 * ((r) % 32)) & 3))
 
 /* The Paulis by number. */
 enum bawersun_pauli { BAWERSUN_I = 0, BAWERSUN_X = 1, BAWERSUN_Y = 2, BAWERSUN_Z = 3 };
@@ -52,31 +53,31 @@ enum bawersun_pauli { BAWERSUN_I = 0, BAWERSUN_X = 1, BAWERSUN_Y = 2, BAWERSUN_Z
 /* What comes back, in the order in which refusals are tested. */
 enum bawersun_number {
     BAWERSUN_DONE = 0,
-    BAWERSUN_NO_FILE = 17,      /* log files: the bytes do not start with the mark P W L, or end inside it */
+    BAWERSUN_NO_FILE = 17,       /* log files: the bytes do not start with the mark P W L, or end inside it */
     BAWERSUN_OTHER_VERSION = 18, /* log files: the version is not 1, or the bytes end inside it */
-    BAWERSUN_SHORT_FILE = 19,   /* log files: fewer bytes than the front says, or the bytes end inside the front */
-    BAWERSUN_LEFT_OVER = 20,    /* log files: more bytes than the front says */
-    BAWERSUN_QUBITS = 1,        /* n is above its limit; for matrix elements also 0 */
-    BAWERSUN_ROWS = 2,          /* too many rows, terms or words of a state */
-    BAWERSUN_LENGTHS = 3,       /* a length does not fit n, m or another length */
-    BAWERSUN_HIGH_BIT = 4,      /* a bit is set at qubit n or above, in a set that is read, a state or a term */
-    BAWERSUN_SPARE_PHASE = 5,   /* a phase bit past the last row is set, in a set that is read */
-    BAWERSUN_TOO_LARGE = 6,     /* a row of m or above, a qubit of n or above, a column of 2n or above, a Pauli above 3 */
-    BAWERSUN_ONE_QUBIT = 21,    /* control and target are the same qubit */
-    BAWERSUN_ROW_TWICE = 7,     /* a row stands twice among the listed ones */
-    BAWERSUN_COLUMN_TWICE = 15, /* a column stands twice in the order */
-    BAWERSUN_LOG_FULL = 8,      /* the log has no room for the next entry; rows and log are as after those that fitted */
-    BAWERSUN_ODD_LOG = 9,       /* the log that is read has an odd length */
-    BAWERSUN_X_FALLS = 10,      /* an X word of the terms is below the one before */
-    BAWERSUN_COEFFICIENT = 11,  /* a coefficient is not finite */
-    BAWERSUN_SUM = 12,          /* a sum is not finite after some addition */
-    BAWERSUN_RANGE = 16,        /* a number of the sum leaves 64 bits */
-    BAWERSUN_NO_TEXT = 13,      /* the text is not that of a row of n qubits */
-    BAWERSUN_SHORT = 14,        /* the output is shorter than the text, the log file or the part of a file that goes there */
-    BAWERSUN_DIFFERS = 252,     /* check: the log leads to other rows than the claimed ones */
-    BAWERSUN_BAD_ENTRY = 253,   /* check, undo: an entry of the log that no reduction with these lists makes */
-    BAWERSUN_NOT_REDUCED = 254, /* check: the claimed rows are not reduced */
-    BAWERSUN_NO_BLOCK = 255     /* matrix elements: no term has the X word; the element is 0 */
+    BAWERSUN_SHORT_FILE = 19,    /* log files: fewer bytes than the front says, or the bytes end inside the front */
+    BAWERSUN_LEFT_OVER = 20,     /* log files: more bytes than the front says */
+    BAWERSUN_QUBITS = 1,         /* n is above its limit; for matrix elements also 0 */
+    BAWERSUN_ROWS = 2,           /* too many rows, terms or words of a state */
+    BAWERSUN_LENGTHS = 3,        /* a length does not fit n, m or another length */
+    BAWERSUN_HIGH_BIT = 4,       /* a bit is set at qubit n or above, in a set that is read, a state or a term */
+    BAWERSUN_SPARE_PHASE = 5,    /* a phase bit past the last row is set, in a set that is read */
+    BAWERSUN_TOO_LARGE = 6,      /* a row of m or above, a qubit of n or above, a column of 2n or above, a Pauli above 3 */
+    BAWERSUN_ONE_QUBIT = 21,     /* control and target are the same qubit */
+    BAWERSUN_ROW_TWICE = 7,      /* a row stands twice among the listed ones */
+    BAWERSUN_COLUMN_TWICE = 15,  /* a column stands twice in the order */
+    BAWERSUN_LOG_FULL = 8,       /* the log has no room for the next entry; rows and log are as after those that fitted */
+    BAWERSUN_ODD_LOG = 9,        /* the log that is read has an odd length */
+    BAWERSUN_X_FALLS = 10,       /* an X word of the terms is below the one before */
+    BAWERSUN_COEFFICIENT = 11,   /* a coefficient is not finite */
+    BAWERSUN_SUM = 12,           /* a sum is not finite after some addition */
+    BAWERSUN_RANGE = 16,         /* a number of the sum leaves 64 bits */
+    BAWERSUN_NO_TEXT = 13,       /* the text is not that of a row of n qubits */
+    BAWERSUN_SHORT = 14,         /* the output is shorter than the text, the log file or the part of a file that goes there */
+    BAWERSUN_DIFFERS = 252,      /* check: the log leads to other rows than the claimed ones */
+    BAWERSUN_BAD_ENTRY = 253,    /* check, undo: an entry of the log that no reduction with these lists makes */
+    BAWERSUN_NOT_REDUCED = 254,  /* check: the claimed rows are not reduced */
+    BAWERSUN_NO_BLOCK = 255      /* matrix elements: no term has the X word; the element is 0 */
 };
 
 /* ---- one qubit, counts */
@@ -155,7 +156,7 @@ uint8_t bawersun_imul(size_t n, size_t m, uint64_t *x, size_t x_len, uint64_t *z
  * pivots. For each column of the order the first listed row, from place t on, with a 1 there is found; if there is one, the
  * listed row at place t is the pivot, multiplied by the row found if that is another. Then every other listed row and every
  * extra row with a 1 there is multiplied by the pivot, and t is one more. Each product, row a becoming a times b, is an
- * entry of the log: two numbers, a and then b.
+ * entry of the log: two numbers, a and then b. A log for min(2 * n, listed_len) * (listed_len + extra_len) entries is never full.
  * Lent: the set; order, listed and extra, read; the log, which has room for log_len / 2 entries.
  * Changed, where 0 comes back: the set, the log's first entries, *entries, their number, and *t, the number of pivots. Where 8
  * comes back the log was full: the set and the log are as after the entries that fitted, and *entries is that number.
@@ -177,8 +178,9 @@ uint8_t bawersun_canonicalize_all(size_t n, size_t m, uint64_t *x, size_t x_len,
  * over the listed rows. log_len is twice the number of entries.
  * Lent: the set, whose rows are the starting ones; order, listed, extra, the log and the claimed rows, read.
  * Changed: the set, to the rows that the log leads to, but not at a refusal or a bad entry.
- * Comes back: 0 for yes; BAWERSUN_BAD_ENTRY, with *place the first entry that is no product of two listed rows or of an extra
- * row by a listed one; BAWERSUN_DIFFERS, with *place the first row that is not the claimed one; BAWERSUN_NOT_REDUCED. Else *place stays.
+ * Comes back: 0 for yes; BAWERSUN_BAD_ENTRY, with *place the first entry whose two numbers are equal, whose first is neither
+ * listed nor extra, or whose second is not listed; BAWERSUN_DIFFERS, with *place the first row that is not the claimed one, bits
+ * and phase; BAWERSUN_NOT_REDUCED. Else *place stays. Entries and rows are counted from 0.
  * Refusals: 1 to 5 of the set and of the claimed rows; 6 of order, listed and extra; 7; 15; 9. */
 uint8_t bawersun_check(size_t n, size_t m, uint64_t *x, size_t x_len, uint64_t *z, size_t z_len, uint64_t *phases,
     size_t phases_len, const uint16_t *order, size_t order_len, const uint16_t *listed, size_t listed_len,
@@ -187,7 +189,8 @@ uint8_t bawersun_check(size_t n, size_t m, uint64_t *x, size_t x_len, uint64_t *
 
 /* undo: the rows that a log led to become those that it started from, to every bit and phase.
  * Lent: the set; listed, extra and the log, read. Changed: the set, where 0 comes back.
- * Comes back: 0; or BAWERSUN_BAD_ENTRY, with *place the first bad entry, and nothing changed.
+ * Comes back: 0; or BAWERSUN_BAD_ENTRY, with *place the first bad entry, as for check, and nothing changed. After a full log (8)
+ * the entries that fitted lead back too.
  * Refusals: 1 to 5 of the set; 6 of listed and extra; 7; 9. */
 uint8_t bawersun_undo(size_t n, size_t m, uint64_t *x, size_t x_len, uint64_t *z, size_t z_len, uint64_t *phases,
     size_t phases_len, const uint16_t *listed, size_t listed_len, const uint16_t *extra, size_t extra_len,
@@ -261,12 +264,13 @@ uint8_t bawersun_conj_h(size_t n, size_t m, uint64_t *x, size_t x_len, uint64_t 
 uint8_t bawersun_conj_s(size_t n, size_t m, uint64_t *x, size_t x_len, uint64_t *z, size_t z_len, uint64_t *phases,
     size_t phases_len, size_t q);
 
-/* conj_cx: controlled-X of a control and a target.
+/* conj_cx: controlled-X of a control and a target: X of the control becomes X of both, Z of the target Z of both.
  * Lent: the set. Changed: the set, where 0 comes back. Refusals: 1 to 5 of the set; 6 of the qubits; 21. */
 uint8_t bawersun_conj_cx(size_t n, size_t m, uint64_t *x, size_t x_len, uint64_t *z, size_t z_len, uint64_t *phases,
     size_t phases_len, size_t control, size_t target);
 
-/* ---- matrix elements: terms of one word, with coefficients; n is 1 to 64. X words never fall */
+/* ---- matrix elements: terms, each one X word, one Z word and a coefficient, on n qubits, 1 to 64; bra and ket are basis states of
+ * one word. No X word is below the one before. All slices of the terms have one length, up to BAWERSUN_MAX_TERMS */
 
 /* mat_elem_cmpnts_from_presorted: the entry of the operator's matrix between two basis states, in doubles: the sum over the
  * terms whose X word is bra ^ ket, in their order, of the coefficient turned by the power of i of the term on the ket.
