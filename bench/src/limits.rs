@@ -3,6 +3,7 @@
 
 use std::hint::black_box;
 
+use bawersun::Lists;
 use oracle::container::coeffs::complex_sign::ComplexSign;
 use oracle::qubit::pauli::cmpnt_major::terms::{AsViewMut, Terms};
 
@@ -214,6 +215,13 @@ fn same(name: &str, yes: bool) {
 
 // ---- the stack
 
+/// The stack alone.
+pub fn stack() {
+    let mut random = Random::of(6, 0);
+    let mut set = || Set::random(&mut random, QUBITS, ROWS);
+    stacks(&set(), &set());
+}
+
 fn stacks(left: &Set, right: &Set) {
     println!(
         "stack that a call at both limits takes, its callers' frames not counted; {LEAST} bytes stand for less, too"
@@ -233,6 +241,12 @@ fn stacks(left: &Set, right: &Set) {
     let (order, listed) = whole(left);
     let claim = Claim { order: &order, listed: &listed, extra: &[], log: &log, rows: left };
     told("check", taken(|| _ = ours::check(&mut rows, &claim)));
+    let lists = Lists { order: &order, listed: &listed, extra: &listed };
+    let mut units = vec![0; 2000];
+    told("canonicalize", taken(|| _ = ours::changed(&mut rows).canonicalize(lists, &mut units)));
+    told("undo", taken(|| _ = ours::changed(&mut rows).undo(&listed, &[], &log)));
+    told("conj_clifford, CX", taken(|| _ = ours::conj_cx(&mut rows, 0, QUBITS - 1)));
+    told("phase_of_mul_by_table", taken(|| _ = ours::lent(&rows).phase_of_mul_by_table(0, ROWS - 1)));
 }
 
 // ---- refusals

@@ -39,6 +39,7 @@ const EDGES: [usize; 11] = [1, 63, 64, 65, 127, 128, 129, 255, 256, 4095, 4096];
 fn main() {
     match std::env::args().nth(1).as_deref() {
         Some("--limits") => limits::run(),
+        Some("--stack") => limits::stack(),
         Some("--matrix-edges") => edges(),
         Some("--states") => pairs_alone(),
         Some("--growth") => reducing::growth(),
@@ -62,6 +63,12 @@ fn short() {
         pairwise(&set(), &set());
         in_place(&set());
         reducing::reduction(&set());
+    }
+    // one row less is reduced by the plain loops
+    for words in [1, 4, 16, 64] {
+        for m in [63, 64] {
+            reducing::reduction(&Set::random(&mut random, 64 * words, m));
+        }
     }
 }
 

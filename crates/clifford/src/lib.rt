@@ -69,7 +69,8 @@ fn place(n: usize, r: usize, q: usize) -> usize
 // The bits at qubit q of row r.
 fn read(n: usize, x: &[u64], z: &[u64], r: RowNumber, q: QubitNumber) -> Bits
     requires { ⌜ (n ≤ maxQubits) × (r .0 < maxRows) × (q .0 < n) ⌝ }
-    ensures { λ b. ⌜ (b .x ≡ bitIn (now (x .entry)) (placeOf n (r .0) (q .0))) × (b .z ≡ bitIn (now (z .entry)) (placeOf n (r .0) (q .0))) ⌝ }
+    ensures { λ b. ⌜ (b .x ≡ bitIn (now (x .entry)) (placeOf n (r .0) (q .0)))
+        × (b .z ≡ bitIn (now (z .entry)) (placeOf n (r .0) (q .0))) ⌝ }
 {
     let k = place(n, r.0, q.0);
     Bits {

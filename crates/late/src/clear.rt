@@ -43,7 +43,8 @@ pub(crate) fn find(
     t: usize,
 ) -> usize
     requires { ⌜ Reads w j i (now b) (now owed) (now tb) × Below (length (now owed)) (now listed) ⌝ }
-    ensures { λ r. ⌜ r ≡ t + firstPlace (seenBit w j i (now (b .entry)) (now (owed .entry)) (now (tb .entry))) (drop t (now (listed .entry))) ⌝ }
+    ensures { λ r. ⌜ r ≡ t
+        + firstPlace (seenBit w j i (now (b .entry)) (now (owed .entry)) (now (tb .entry))) (drop t (now (listed .entry))) ⌝ }
 {
     let mut a = t;
     while a < listed.len() {
@@ -123,7 +124,8 @@ fn turn(
 ) -> Late
     requires { ⌜ TurnIn n c pivot h (store (lent m x z p) (lent tableRows tx tz tp) (now owed) (now log) s) ⌝ }
     requires { ⌜ Sees n c w j i (lent m x z p) (lent tableRows tx tz tp) (now b) (now tb) × (k < m) ⌝ }
-    ensures { λ r. ⌜ Runs n (Clearing (bitRow n) (mulRow n) c pivot (s .g - 1)) (turnC (bitRow n) (mulRow n) (capacity (now (log .entry))) c pivot k)
+    ensures { λ r. ⌜ Runs n (Clearing (bitRow n) (mulRow n) c pivot (s .g - 1))
+        (turnC (bitRow n) (mulRow n) (capacity (now (log .entry))) c pivot k)
         (store (before m x z p) (before tableRows tx tz tp) (now (owed .entry)) (now (log .entry)) s)
         (store (before m x z p) (before tableRows tx tz tp) (now (owed .exit)) (now (log .exit)) r) ⌝ }
 {

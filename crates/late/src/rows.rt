@@ -21,7 +21,8 @@ fn mul_into(
     w: usize,
 ) -> Factor
     requires { ⌜ RoomBy w d s t (now x) (now z) (now bx) (now bz) ⌝ }
-    ensures { λ r. ⌜ MultipliedBy w d s t (now (x .entry)) (now (z .entry)) (now (bx .entry)) (now (bz .entry)) (now (x .exit)) (now (z .exit)) r ⌝ }
+    ensures { λ r. ⌜ MultipliedBy w d s t (now (x .entry)) (now (z .entry)) (now (bx .entry)) (now (bz .entry))
+        (now (x .exit)) (now (z .exit)) r ⌝ }
 {
     let mut n: u64 = 0;
     let mut f: u64 = 0;

@@ -1,3 +1,5 @@
+-- `late::columns` meets its contract: where what is asked holds, the run is done in the scratch arrays; else nothing is changed, and the answer is
+-- the start. Assumes nothing.
 use mathlib.Core.Path.{refl}
 use Rattle.late.specs.Workers.{reduced, kept-all}
 use Rattle.late.proofs.Scratch.{told-yes, told-no}

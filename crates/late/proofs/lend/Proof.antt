@@ -1,3 +1,5 @@
+-- `late::lend` meets its contract: the first m bytes and the first entries of the scratch arrays are lent; a part of zeros is zeros, so the run
+-- starts with nothing owed. Assumes nothing.
 use native.Mathlib.Omega.{arith}
 use Rattle.encoding.specs.Set.{memOf}
 use Rattle.late.proofs.Scratch.{scratch-start}

@@ -1,3 +1,5 @@
+-- `late::ready` meets its contract: no fault means a row set within the limits, and each list is held to its limit. A list that has a number too
+-- large is none of those that are asked. Assumes nothing.
 use native.Mathlib.Omega.{arith}
 use mathlib.Core.Path.{sym, _∙_}
 use Rattle.encoding.specs.Set.{memOf}

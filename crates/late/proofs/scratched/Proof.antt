@@ -1,3 +1,5 @@
+-- `late::scratched` meets its contract: arrays of zeros owe nothing and hold a table whose entry 0 is the identity. Their lengths are the limits'
+-- own. Assumes nothing.
 use Prim.Native.Nat.{ℕ}
 use lib.ListN.{length-replicate}
 use Rattle.encoding.specs.Limits.{maxRows}

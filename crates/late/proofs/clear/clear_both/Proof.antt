@@ -1,4 +1,5 @@
--- Listed rows and then extra rows, each through `clear`: two runs one after the other are the run over both lists (`through-append`).
+-- Listed rows and then extra rows, each through `clear`: two runs one after the other are the run over both lists (`through-append`), and a log that
+-- gets full in the first ends it. Assumes nothing.
 use mathlib.Core.Path.{_∙_}
 use Rattle.pauli.specs.Row.{mulRow, bitRow}
 use Rattle.encoding.specs.Set.{memOf}

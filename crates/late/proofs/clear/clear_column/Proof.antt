@@ -1,3 +1,5 @@
+-- `late::clear::clear_column` meets its contract: a column below n is seen in the X words, any other in the Z words, of rows and table alike, and
+-- `clear_both` runs there. Assumes nothing.
 use Rattle.encoding.specs.Set.{memOf}
 use Rattle.late.specs.Workers.{tableRows}
 use Rattle.late.proofs.ColumnBits.{sees-x, sees-z}

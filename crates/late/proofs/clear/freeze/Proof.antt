@@ -1,3 +1,5 @@
+-- `late::clear::freeze` meets its contract: the table is doubled by the pivot's row, which no row owes yet, so the state stands for the same run; the
+-- column is cleared from there. Assumes nothing.
 use native.Mathlib.Omega.{arith}
 use Rattle.late.proofs.Clearing.{double-in, freeze-in, freeze-then}
 use Rattle.late.proofs.clear.freeze.Statement.{statement}

@@ -1,4 +1,5 @@
--- `late::clear::owe` meets its contract: what was chosen is written, and units and byte were read before. Assumes nothing.
+-- `late::clear::owe` meets its contract: what was chosen is written. The byte and both units were read before anything was written, so where b does not
+-- hold they are written back as they were. Assumes nothing.
 use native.Mathlib.Omega.{arith}
 use mathlib.Core.Path.{ap, ap₂}
 use Prim.Native.Nat.{ℕ, _+_}

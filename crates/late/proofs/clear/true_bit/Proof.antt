@@ -1,3 +1,5 @@
+-- `late::clear::true_bit` meets its contract: both words lie inside, and the bit of an exclusive or is the exclusive or of the bits. Places are
+-- products of a row number and w, which the premise bounds. Assumes nothing.
 use native.Mathlib.Omega.{arith}
 use lib.ListN.{getD}
 use Prim.Native.Nat.{_+_, _*_}

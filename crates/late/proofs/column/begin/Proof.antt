@@ -1,3 +1,5 @@
+-- `late::column::begin` meets its contract. With room in the block nothing is done; else every row pays, which leaves what the state stood for,
+-- and a block without pivots begins. Assumes nothing.
 use Rattle.late.proofs.Columning.{begin-none, begin-paid}
 use Rattle.late.proofs.column.begin.Statement.{statement}
 use Rattle.late.proofs.column.begin.Tie as tie

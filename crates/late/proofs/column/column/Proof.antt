@@ -1,3 +1,5 @@
+-- `late::column::column` meets its contract. No row found: the column is passed over. Else the pivot is the listed row at place t, `pivot_by` does the
+-- rule's pivot, and t grows by one where the log did not get full. Lengths are carried from call to call. Assumes nothing.
 use native.Mathlib.Omega.{arith}
 use Rattle.late.proofs.Columning.{search-in, column-none, pivot-in, column-full, column-done}
 use borrow.Author.Needs.{needs}

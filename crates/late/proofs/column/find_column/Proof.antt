@@ -1,3 +1,5 @@
+-- `late::column::find_column` meets its contract: a column below n is a bit of the X words, any other of the Z words, and the bit that is read, of the row
+-- and of what it owes, is the column of the row when it has paid. Assumes nothing.
 use native.Mathlib.Omega.{arith}
 use Rattle.encoding.specs.Set.{memOf}
 use Rattle.late.specs.Workers.{tableRows}

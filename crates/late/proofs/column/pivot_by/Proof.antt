@@ -1,3 +1,5 @@
+-- `late::column::pivot_by` meets its contract: `lead` brings the pivot up to date, and `freeze` takes it into the table and clears the column. Two runs one
+-- after the other are the rule's pivot; a log that gets full in the first ends it. Assumes nothing.
 use mathlib.Core.Path.{_∙_}
 use mathlib.Core.List.{_++_}
 use Rattle.late.proofs.Columning.{freeze-ready, pivot-full, pivot-then}

@@ -1,3 +1,5 @@
+-- `late::column::reduce` meets its contract: the columns are run, and then every row pays, so that rows, log and progress are those that the state stood
+-- for, whether the log is full or not. Assumes nothing.
 use mathlib.Core.Path.{_∙_}
 use Rattle.late.proofs.Columning.{all-done}
 use Rattle.late.proofs.column.reduce.Statement.{statement}

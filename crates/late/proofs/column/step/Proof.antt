@@ -1,3 +1,5 @@
+-- `late::column::step` meets its contract: `begin` leaves a block with room that stands for the same run, so `column`, run from there, is run from the
+-- start. Lengths are carried from call to call. Assumes nothing.
 use mathlib.Core.Path.{refl, _∙_}
 use Rattle.late.proofs.Columning.{begin-in, column-in, step-then}
 use Rattle.late.proofs.column.step.Statement.{statement}

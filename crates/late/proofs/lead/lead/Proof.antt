@@ -1,3 +1,5 @@
+-- `late::lead::lead` meets its contract: a pivot that has paid stands for the same row as before; where the row found is the pivot itself there is no more
+-- to do, else `lead_by` does the product. Assumes nothing.
 use mathlib.Core.Path.{_∙_}
 use Rattle.late.proofs.Leading.{lead-next, lead-same, lead-other}
 use Rattle.late.proofs.lead.lead.Statement.{statement}

@@ -1,3 +1,5 @@
+-- `late::lead::lead_by` meets its contract: the row found has paid, so the product of the two rows in memory is the product of the rows that they stand
+-- for. Assumes nothing.
 use Rattle.late.proofs.Leading.{put-in, lead-makes}
 use Rattle.late.proofs.lead.lead_by.Statement.{statement}
 use Rattle.late.proofs.lead.lead_by.Tie as tie

@@ -1,3 +1,5 @@
+-- `late::lead::mul_rows` meets its contract: both rows lie inside the set's words and are the same or apart, so the leaf of products multiplies them, and
+-- exponents are added. Assumes nothing.
 use native.Mathlib.Omega.{arith}
 use mathlib.Core.Path.{refl, ap, _∙_}
 use lib.ListN.{length}

@@ -1,3 +1,5 @@
+-- `late::lead::put` meets its contract: without room nothing is done; else the rows are multiplied, and the entry stands in the two units past the
+-- last one. Assumes nothing.
 use native.Mathlib.Omega.{arith}
 use mathlib.Core.Path.{refl, ap, _∙_}
 use lib.ListN.{length, length-set}

@@ -1,4 +1,5 @@
--- Words below i of the target's part are those of the source, and all else is as it was (`Copying`).
+-- Words below i of the target's part are those of the source, and all else is as it was (`Copying`); each turn writes the next word of the
+-- part. Assumes nothing.
 use Rattle.late.proofs.From.{Copying, copy-none, copy-more, copy-all}
 use Prim.Native.Nat.{_-_}
 use borrow.Author.Needs.{needs}

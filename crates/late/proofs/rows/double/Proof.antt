@@ -1,3 +1,5 @@
+-- `late::rows::double` meets its contract: entry o becomes row a, and `fill` makes the entries past it from those below o, which stay.
+-- Assumes nothing.
 use Rattle.late.proofs.View.{double-put, double-next, double-at, double-then}
 use mathlib.Core.Path.{ap, _∙_}
 use lib.ListN.{length}

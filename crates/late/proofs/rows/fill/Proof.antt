@@ -1,4 +1,5 @@
--- Entries below o and entry o are as they were, and those from o + 1 up to o + i are products by the pivot (`Filling`): only entry i + o is written.
+-- Entries below o and entry o are as they were, and those from o + 1 up to o + i are products by the pivot (`Filling`): only entry i + o is
+-- written. Assumes nothing.
 use Rattle.late.specs.Workers.{tableRows}
 use Rattle.late.proofs.View.{Filling, fill-start, fill-in, fill-more, fill-end}
 use Rattle.encoding.specs.Set.{memOf}

@@ -1,3 +1,5 @@
+-- `late::rows::mul_by` meets its contract: the words of all three rows lie inside, the row that is written is the left one or lies past it, and the
+-- exponent follows from those of the two rows and of the product. Assumes nothing.
 use Rattle.late.proofs.View.{small-start, room-by}
 use mathlib.Core.Path.{refl, ap, _∙_}
 use native.Mathlib.Omega.{arith}

@@ -1,3 +1,5 @@
+-- `late::rows::pay` meets its contract: a row that owes nothing stays; else one product by the entry that it owes is what it stood for, and it owes
+-- nothing then. Assumes nothing.
 use Rattle.late.proofs.View.{pay-in, pay-nothing, pay-product}
 use mathlib.Core.Path.{ap, _∙_}
 use native.Mathlib.Omega.{arith}

@@ -1,4 +1,5 @@
--- Rows below k owe nothing, and memory stands for the same rows as before (`PayingAll`): a row that pays stands for what it stood for.
+-- Rows below k owe nothing, and memory stands for the same rows as before (`PayingAll`): a row that pays stands for what it stood for, and pays
+-- at most once. Assumes nothing.
 use Rattle.late.specs.Workers.{tableRows}
 use Rattle.late.proofs.View.{PayingAll, paying-none, paying-more, paying-all}
 use Rattle.encoding.specs.Set.{memOf}

@@ -1,3 +1,5 @@
+-- `late::rows::put_row` meets its contract: the words of X and of Z are copied one after the other, and the exponent after them; each copy leaves
+-- the rest as it was. Assumes nothing.
 use Rattle.late.proofs.View.{small-start, room-by}
 use mathlib.Core.Path.{refl, ap, _∙_}
 use native.Mathlib.Omega.{arith}
