@@ -37,6 +37,6 @@ module _ (n : ℕ) {M : Mem} {out out′ : List ℕ} (c : CompatibilityMatrix n 
   matrix-imul {M′} {d} p = matrix-number d (imul-number n i j p)
 
   -- rows i and j as row k of the left set and of the right one
-  pub matrix-pairwise : {L R O O′ : Mem} {cs cs′ : List ℕ} → Words64 L → Words64 R → count R ≡ count L → MulPairwise n L R O O′ cs cs′ Done → (k : ℕ) → k < count L
+  pub matrix-pairwise : {L R O O′ : Mem} {cs cs′ : List ℕ} → Words64 L → Words64 R → MulPairwise n L R O O′ cs cs′ Done → (k : ℕ) → k < count L
       → rowsOf n L k ≡ rowsOf n M i → rowsOf n R k ≡ rowsOf n M j → (bitAt out′ (i * wordsOf (count M) + j / 64) (j % 64) ≡ true) ↔ (getD cs′ k 0 % 2 ≡ 0)
-  matrix-pairwise {L} {R} {O} {O′} {cs} {cs′} wl wr same p k h l r = matrix-number (getD cs′ k 0) (pairwise-number n wl wr same p k h ∙ ap₂ (clashesOf n) l r)
+  matrix-pairwise {L} {R} {O} {O′} {cs} {cs′} wl wr p k h l r = matrix-number (getD cs′ k 0) (pairwise-number n wl wr p k h ∙ ap₂ (clashesOf n) l r)

@@ -6,14 +6,14 @@ use Rattle.pauli.specs.Row.{padMul, mulRow, bitOf}
 use Rattle.pauli.specs.Rows.{commute, holding, countOf}
 use Rattle.encoding.specs.Words.{word, unpack, bits, unbits, join, pack, layRows}
 use Rattle.encoding.specs.Set.{wordIn, exponentAt, layExponents, rowsIn, list, layIn}
-use Rattle.encoding.specs.Refusals.{faultFrom, joined, some, someBelow, badBits, badPhases}
+use Rattle.encoding.specs.Refusals.{some, someBelow, badBits, badPhases}
 use Rattle.cmpnt_list.specs.Calls.{countIn, commutesWith}
 use Rattle.reduction.specs.Lists.{has, distinct}
 use Rattle.reduction.specs.Rule.{mulAt, multiply, counted, first, clear, pivot, columnBy, column, columns, reduce}
 use Rattle.reduction.specs.Replay.{replay}
 use Rattle.reduction.specs.Log.{units, logged}
 use Rattle.reduction.specs.Capacity.{capped}
-use Rattle.encoding.specs.Ranks.{byRank, numbered}
+use Rattle.encoding.specs.Ranks.{byRank, placeIn, placed, joined}
 use Rattle.mat_elem.specs.Terms.{fallsAfter}
 use Rattle.mat_elem.specs.Sums.{sumOver}
 use Rattle.mat_elem.specs.whole.Sums as whole
@@ -22,14 +22,14 @@ use Rattle.mat_elem.specs.float.Sums.{overflows}
 use Rattle.cases.specs.Table.{Table}
 
 pub p1-to-p12 : Table
-unfolding padMul mulRow bitOf commute holding countOf word unpack bits unbits join pack layRows wordIn exponentAt layExponents rowsIn list layIn faultFrom byRank numbered joined some someBelow badBits badPhases countIn commutesWith has distinct mulAt multiply counted first clear pivot columnBy column columns reduce replay units logged capped fallsAfter sumOver whole.elementOf float.elementOf overflows add neg
+unfolding padMul mulRow bitOf commute holding countOf word unpack bits unbits join pack layRows wordIn exponentAt layExponents rowsIn list layIn byRank placeIn placed joined some someBelow badBits badPhases countIn commutesWith has distinct mulAt multiply counted first clear pivot columnBy column columns reduce replay units logged capped fallsAfter sumOver whole.elementOf float.elementOf overflows add neg
 p1-to-p12 =
     record {
-      p1 = record { answer = refl; rows = refl; numbers = refl };
-      p2 = record { answer = refl; rows = refl; numbers = refl };
-      p3 = record { answer = refl; rows = refl; numbers = refl };
-      signed = record { answer = refl; rows = refl; numbers = refl };
-      signed-none = record { answer = refl; rows = refl; numbers = refl };
+      p1 = record { one-m = refl; answer = refl; rows = refl; numbers = refl };
+      p2 = record { one-m = refl; answer = refl; rows = refl; numbers = refl };
+      p3 = record { one-m = refl; answer = refl; rows = refl; numbers = refl };
+      signed = record { one-m = refl; answer = refl; rows = refl; numbers = refl };
+      signed-none = record { one-m = refl; answer = refl; rows = refl; numbers = refl };
       p4 = record { answer = refl; state = refl };
       p5 = record { answer = refl; state = refl };
       p6 = refl;

@@ -1,6 +1,6 @@
 -- What a call that answers Done has done, by its contract alone: each row's matrix with its phase before and after, the commutation matrix word for word
 -- the same, and the set taken by every call again. A gate several times gives back the set. Assumes nothing.
-use mathlib.Core.Path.{_≡_, refl, sym, ap, ap₂, _∙_, subst}
+use mathlib.Core.Path.{_≡_, sym, ap, ap₂, _∙_, subst}
 use mathlib.Core.Logic.{_↔_}
 use mathlib.Core.Bool.{Bool, cond}
 use mathlib.Core.List.{List, _++_}
@@ -13,15 +13,16 @@ use Rattle.pauli.specs.Rows.{commute}
 use Rattle.encoding.specs.Limits.{maxQubits, maxRows, wordsOf}
 use Rattle.encoding.specs.Words.{layRows}
 use Rattle.encoding.specs.Set.{Mem, count, rowsOf, list, lay, Sound}
-use Rattle.encoding.specs.Refusals.{fault, least, setTests, doneOr, leftOr}
+use Rattle.encoding.specs.Refusals.{least, setLines, doneOr, leftOr}
 use Rattle.encoding.specs.declared.Answer.{Answer}
 use Rattle.encoding.specs.declared.Answer.the-variants.{Done, Refused}
 use Rattle.encoding.proofs.Again.{lay-passes}
-use Rattle.encoding.proofs.Faults.{or-none, joined-fault, done-none}
+use Rattle.encoding.proofs.Faults.{or-none, done-none}
 use Rattle.encoding.proofs.Memory.{within-limits, read-lay, count-lay, lay-back}
-use Rattle.encoding.specs.Ranks.{numbered}
-use Rattle.encoding.proofs.Ranks.{Given, given-iff}
-use Rattle.cmpnt_list.specs.Calls.{matrixTests, matrixFault, laidMatrix, commuting, CompatibilityMatrix}
+use Rattle.encoding.specs.Ranks.{byRank}
+use Rattle.encoding.proofs.Ranks.{joined-fault, Given, answer-refused}
+use Rattle.cmpnt_list.proofs.Tests.{matrix-parts}
+use Rattle.cmpnt_list.specs.Calls.{matrixLines, matrixFault, laidMatrix, commuting, CompatibilityMatrix}
 use Rattle.gates.specs.Places.{Places}
 use Rattle.gates.specs.Gates.{touched, conjRow, conjRows, order, repeat}
 use Rattle.gates.specs.Matrices.{factor, gateMatrix, inverseMatrix}
@@ -37,10 +38,10 @@ use Rattle.clifford.proofs.Tests.{fault-is, places-of, two-none}
 -- ---- what no refusal leaves
 
 module _ (n : ℕ) (M : Mem) (g : Gate) (e : gateFault n M g ≡ 0) where
-  parts : (fault (setTests n M) ≡ 0) × (_≡_ {A = ℕ} (cond (largeQubit n g) 6 (cond (oneQubit g) 21 0)) 0)
-  parts = or-none (fault (setTests n M)) (cond (largeQubit n g) 6 (cond (oneQubit g) 21 0)) (sym (fault-is n M g) ∙ e)
+  parts : (byRank (setLines n M) ≡ 0) × (_≡_ {A = ℕ} (cond (largeQubit n g) 6 (cond (oneQubit g) 21 0)) 0)
+  parts = or-none (byRank (setLines n M)) (cond (largeQubit n g) 6 (cond (oneQubit g) 21 0)) (sym (fault-is n M g) ∙ e)
 
-  pub set-passed : fault (setTests n M) ≡ 0
+  pub set-passed : byRank (setLines n M) ≡ 0
   set-passed = parts .0
 
   pub qubits-passed : Places n (touched g)
@@ -80,9 +81,9 @@ module _ (n : ℕ) (g : Gate) {M M′ : Mem} (c : Conjugates n g M M′ Done) wh
       (row-conjugated n g (rowsOf n M k) places)
 
   -- every call that reads a set takes it
-  pub again : fault (setTests n M′) ≡ 0
+  pub again : byRank (setLines n M′) ≡ 0
   again =
-      ap (λ (N : Mem). fault (setTests n N)) laid
+      ap (λ (N : Mem). byRank (setLines n N)) laid
       ∙ lay-passes n (count M) (conjRows n g (rowsOf n M)) (limits .0) (limits .1)
       (record { long = λ k _. fine-conj n g (rowsOf n M k) .0; small = λ k _. fine-conj n g (rowsOf n M k) .1 })
 
@@ -93,9 +94,9 @@ module _ (n : ℕ) (g : Gate) {M M′ : Mem} (c : Conjugates n g M M′ Done) wh
 
   matrix-fault-kept : (size : ℕ) → matrixFault n M size ≡ matrixFault n M′ size
   matrix-fault-kept size =
-      sym (joined-fault (setTests n M) (matrixTests (count M) size))
-      ∙ ap₂ least (set-passed n M g none-fits ∙ sym again) (ap (λ (m : ℕ). fault (matrixTests m size)) (sym count-same))
-      ∙ joined-fault (setTests n M′) (matrixTests (count M′) size)
+      sym (joined-fault (setLines n M) (matrixLines (count M) size) (matrix-parts n M (count M) size))
+      ∙ ap₂ least (set-passed n M g none-fits ∙ sym again) (ap (λ (m : ℕ). byRank (matrixLines m size)) (sym count-same))
+      ∙ joined-fault (setLines n M′) (matrixLines (count M′) size) (matrix-parts n M′ (count M′) size)
 
   bits-kept : laidMatrix (count M) (commuting n M) ≡ laidMatrix (count M′) (commuting n M′)
   bits-kept =
@@ -148,14 +149,10 @@ set-back n g {M} {M′} s h d =
 -- ---- refusals, and one outcome
 
 -- number k + 1 is given exactly when its line of the table fits the call and none above it does
-pub refused-when : (n : ℕ) (g : Gate) {M M′ : Mem} {a : Answer} (k : ℕ) → Conjugates n g M M′ a → (a ≡ Refused (suc k)) ↔ Given (suc k) (numbered 1 (setTests n M) ++ gateLines n g)
+pub refused-when : (n : ℕ) (g : Gate) {M M′ : Mem} {a : Answer} (k : ℕ) → Conjugates n g M M′ a → (a ≡ Refused (suc k)) ↔ Given (suc k) (setLines n M ++ gateLines n g)
 refused-when n g {M} k c =
-    let i = given-iff Refused doneOr (λ j. refl) only (numbered 1 (setTests n M) ++ gateLines n g) k in
+    let i = answer-refused (setLines n M ++ gateLines n g) k in
     (λ e. i .0 (sym (c .answer) ∙ e), λ f. c .answer ∙ i .1 f)
-  where
-    only : (f k : ℕ) → doneOr f ≡ Refused (suc k) → f ≡ suc k
-    only zero k e = let z : _≡_ {A = ℕ} 0 1 = cc in absurd (omega arith)
-    only (suc f) k e = cc
 
 pub conj-clifford-one : {n : ℕ} {g : Gate} {M M₁ M₂ : Mem} {a b : Answer} → Conjugates n g M M₁ a → Conjugates n g M M₂ b → (a ≡ b) × (M₁ ≡ M₂)
 conj-clifford-one c d = (c .answer ∙ sym (d .answer), c .rows ∙ sym (d .rows))

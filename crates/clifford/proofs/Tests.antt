@@ -7,12 +7,12 @@ use borrow.Author.Tests.{leb-false, eqb-false}
 use lib.Dec.{leb}
 use Rattle.encoding.specs.Limits.{wordsOf}
 use Rattle.encoding.specs.Set.{Mem, Valid}
-use Rattle.encoding.specs.Refusals.{fault, setTests}
+use Rattle.encoding.specs.Refusals.{setLines}
 use Rattle.encoding.proofs.Faults.{orElse, or-first, not-large}
 use Rattle.encoding.proofs.Scan.{none-of}
 use Rattle.encoding.proofs.Sets.{sound-of}
 use Rattle.encoding.specs.Ranks.{byRank}
-use Rattle.encoding.proofs.Ranks.{ranked}
+use Rattle.encoding.proofs.Ranks.{rank-append}
 use Rattle.gates.specs.Places.{Places}
 use Rattle.gates.specs.Gates.{touched}
 use Rattle.gates.specs.declared.Gate.{Gate}
@@ -36,14 +36,14 @@ module _ (n : ℕ) (M : Mem) (g : Gate) where
   unfolding byRank
   two-lines = refl
 
-  pub fault-is : gateFault n M g ≡ orElse (fault (setTests n M)) (cond (largeQubit n g) 6 (cond (oneQubit g) 21 0))
-  fault-is = ranked 0 (setTests n M) (gateLines n g) ∙ ap (orElse (fault (setTests n M))) two-lines
+  pub fault-is : gateFault n M g ≡ orElse (byRank (setLines n M)) (cond (largeQubit n g) 6 (cond (oneQubit g) 21 0))
+  fault-is = rank-append (setLines n M) (gateLines n g) refl ∙ ap (orElse (byRank (setLines n M))) two-lines
 
   -- a number of the set
-  pub set-number : {f : ℕ} → f ≡ fault (setTests n M) → (f ≡ 0 → ⊥) → f ≡ gateFault n M g
+  pub set-number : {f : ℕ} → f ≡ byRank (setLines n M) → (f ≡ 0 → ⊥) → f ≡ gateFault n M g
   set-number {f} e ne = sym (fault-is ∙ ap (λ (k : ℕ). orElse k (cond (largeQubit n g) 6 (cond (oneQubit g) 21 0))) (sym e) ∙ or-first f _ ne)
 
-  module _ {f r v : ℕ} {a b : Bool} (ef : f ≡ fault (setTests n M)) (z : f ≡ 0) (ea : a ≡ largeQubit n g) (eb : b ≡ oneQubit g) (ev : v ≡ cond b 21 0) (er : r ≡ cond a 6 v) where
+  module _ {f r v : ℕ} {a b : Bool} (ef : f ≡ byRank (setLines n M)) (z : f ≡ 0) (ea : a ≡ largeQubit n g) (eb : b ≡ oneQubit g) (ev : v ≡ cond b 21 0) (er : r ≡ cond a 6 v) where
     here : r ≡ cond (largeQubit n g) 6 (cond (oneQubit g) 21 0)
     here = er ∙ ap₂ (λ (t : Bool) (k : ℕ). cond t 6 k) ea (ev ∙ ap (λ (t : Bool). cond t 21 0) eb)
 

@@ -6,9 +6,9 @@ use mathlib.Core.List.{List, [], _∷_, _++_}
 use Prim.Native.Nat.{ℕ}
 use lib.Dec.{eqb}
 use Rattle.encoding.specs.Set.{Mem, count, rowsOf, lay}
-use Rattle.encoding.specs.Refusals.{setTests, tooLarge, doneOr, leftOr}
+use Rattle.encoding.specs.Refusals.{setLines, tooLarge, doneOr, leftOr}
 use Rattle.encoding.specs.declared.Answer.{Answer}
-use Rattle.encoding.specs.Ranks.{TableLine, line, byRank, numbered}
+use Rattle.encoding.specs.Ranks.{TableLine, line, byRank}
 use Rattle.gates.specs.Gates.{conjRows}
 use Rattle.gates.specs.declared.Gate.{Gate}
 use Rattle.gates.specs.declared.Gate.the-variants as gate
@@ -29,7 +29,7 @@ abbrev pub gateLines : ℕ → Gate → List TableLine
 gateLines n g = line 6 (largeQubit n g) ∷ line 21 (oneQubit g) ∷ []
 
 abbrev pub gateFault : ℕ → Mem → Gate → ℕ
-gateFault n M g = byRank (numbered 1 (setTests n M) ++ gateLines n g)
+gateFault n M g = byRank (setLines n M ++ gateLines n g)
 
 -- conj_clifford: every row of the set is conjugated by the gate
 pub record Conjugates (n : ℕ) (g : Gate) (M M′ : Mem) (a : Answer) : Type 0 where

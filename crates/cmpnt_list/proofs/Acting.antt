@@ -9,7 +9,8 @@ use Rattle.pauli.specs.Pauli.{Pauli, turnPhase, act, actPhase}
 use Rattle.encoding.specs.Limits.{wordsOf}
 use Rattle.encoding.specs.Words.{unbits, pack}
 use Rattle.encoding.specs.Set.{part, row, Mem, count, rowsOf, Sound}
-use Rattle.encoding.specs.Refusals.{fault, stateTests}
+use Rattle.encoding.specs.Refusals.{stateLines}
+use Rattle.encoding.specs.Ranks.{byRank}
 use Rattle.encoding.proofs.Memory.{x-row, z-row, clean}
 use Rattle.encoding.proofs.Padding.{total-take}
 use Rattle.encoding.proofs.RowWords.{inWords, first-n}
@@ -20,7 +21,7 @@ use Rattle.products.proofs.Xor.{acted-is}
 use Rattle.cmpnt_list.specs.Workers.{RowAt, StateActed}
 use Rattle.cmpnt_list.proofs.Views.{part-is}
 
-module _ (n : ℕ) {M : Mem} (g : Sound n M) (r : ℕ) (hr : r < count M) {st st′ : List ℕ} {e : ℕ} (z : fault (stateTests n st) ≡ 0) where
+module _ (n : ℕ) {M : Mem} (g : Sound n M) (r : ℕ) (hr : r < count M) {st st′ : List ℕ} {e : ℕ} (z : byRank (stateLines n st) ≡ 0) where
   row-acted : RowAction (row (wordsOf n) r (M .xs)) (row (wordsOf n) r (M .zs)) st st′ e → StateActed n (rowsOf n M r) st st′ e
   row-acted p =
       let w = wordsOf n in

@@ -13,7 +13,8 @@ use Rattle.pauli.proofs.Lists.{length-each}
 use Rattle.pauli.proofs.RowLaws.{pad-mul}
 use Rattle.encoding.specs.Limits.{wordsOf}
 use Rattle.encoding.specs.Set.{row, Mem, count, rowsIn, rowsOf, lay, layIn, stateOf, layState}
-use Rattle.encoding.specs.Refusals.{fault, setTests, stateTests, tooLarge, leftOr}
+use Rattle.encoding.specs.Refusals.{setLines, stateLines, tooLarge, Readable, leftOr}
+use Rattle.encoding.specs.Ranks.{byRank}
 use Rattle.encoding.specs.declared.Answer.the-variants.{Done}
 use Rattle.encoding.proofs.WordLaws.{Fit, xors}
 use Rattle.encoding.proofs.Parts.{row-lay-list}
@@ -22,14 +23,14 @@ use Rattle.encoding.proofs.Memory.{Proper, row-count}
 use Rattle.encoding.proofs.Again.{lay-passes, state-passes}
 use Rattle.products.proofs.Xor.{product-x, product-z, acted-xor}
 use Rattle.cmpnt_list.specs.Calls.{pairwiseFault, pairs, MulPairwise, ImulState}
-use Rattle.cmpnt_list.specs.Workers.{Asked, BothReady}
+use Rattle.cmpnt_list.specs.Workers.{BothReady}
 use Rattle.cmpnt_list.specs.declared.Phase.the-variants as phase
 use Rattle.cmpnt_list.proofs.Tests.{Words64, asked-of, pairwise-asked}
 use Rattle.cmpnt_list.proofs.Meaning.{nothing, parts-ok, acted-long}
 
 -- ---- cmpnts_mul_pairwise
 
-module _ (n : ℕ) {L R O O′ : Mem} {cs cs′ : List ℕ} (wl : Words64 L) (wr : Words64 R) (same : count R ≡ count L) (c : MulPairwise n L R O O′ cs cs′ Done) where
+module _ (n : ℕ) {L R O O′ : Mem} {cs cs′ : List ℕ} (wl : Words64 L) (wr : Words64 R) (c : MulPairwise n L R O O′ cs cs′ Done) where
   none-fits : pairwiseFault n L R O (length cs) ≡ 0
   none-fits = done-none (pairwiseFault n L R O (length cs)) (sym (c .answer))
 
@@ -37,7 +38,7 @@ module _ (n : ℕ) {L R O O′ : Mem} {cs cs′ : List ℕ} (wl : Words64 L) (wr
   both = pairwise-asked n O (length cs) wl wr none-fits
 
   right-in : (k : ℕ) → k < count L → k < count R
-  right-in k h = subst (λ (j : ℕ). k < j) (sym same) h
+  right-in k h = subst (λ (j : ℕ). k < j) (sym (c .one-m)) h
 
   laid : O′ ≡ lay n (count L) (pairs n L R)
   laid = c .rows ∙ ap (λ (k : ℕ). leftOr k O (lay n (count L) (pairs n L R))) none-fits
@@ -54,8 +55,8 @@ module _ (n : ℕ) {L R O O′ : Mem} {cs cs′ : List ℕ} (wl : Words64 L) (wr
       }
 
   -- every call that reads a set takes the third
-  pub pairwise-again : fault (setTests n O′) ≡ 0
-  pairwise-again = ap (λ (N : Mem). fault (setTests n N)) laid ∙ lay-passes n (count L) (pairs n L R) (both .left .few-qubits) (both .left .few-rows) proper
+  pub pairwise-again : byRank (setLines n O′) ≡ 0
+  pairwise-again = ap (λ (N : Mem). byRank (setLines n N)) laid ∙ lay-passes n (count L) (pairs n L R) (both .left .few-qubits) (both .left .few-rows) proper
 
   -- its words
   pub pairwise-x : (k : ℕ) → k < count L → row (wordsOf n) k (O′ .xs) ≡ xors (row (wordsOf n) k (L .xs)) (row (wordsOf n) k (R .xs))
@@ -73,7 +74,7 @@ module _ (n : ℕ) {L R O O′ : Mem} {cs cs′ : List ℕ} (wl : Words64 L) (wr
 -- ---- imul_state
 
 module _ (n : ℕ) {M : Mem} (w : Words64 M) (r : ℕ) {st st′ : List ℕ} {e : ℕ} (c : ImulState n M r st st′ (phase.Exponent (record { 0 = e }))) where
-  asked : Asked n M (tooLarge (count M) r)
+  asked : Readable n M (tooLarge (count M) r)
   asked = asked-of n w (tooLarge (count M) r) (parts-ok n w r c .0)
 
   row-in : r < count M
@@ -83,9 +84,9 @@ module _ (n : ℕ) {M : Mem} (w : Words64 M) (r : ℕ) {st st′ : List ℕ} {e 
   laid-state = c .state ∙ ap (λ (k : ℕ). leftOr k st (layState n (actOn n (rowsOf n M r) (stateOf n st)))) (nothing n w r c)
 
   -- every call that takes a state takes the new one
-  pub state-again : fault (stateTests n st′) ≡ 0
+  pub state-again : byRank (stateLines n st′) ≡ 0
   state-again =
-      ap (λ (s : List ℕ). fault (stateTests n s)) laid-state
+      ap (λ (s : List ℕ). byRank (stateLines n s)) laid-state
       ∙ state-passes n (actOn n (rowsOf n M r) (stateOf n st)) (acted-long n w r c) (asked .ready .few-qubits)
 
   -- it is the exclusive or of the row's X words and the old state

@@ -22,8 +22,10 @@ use Rattle.pauli.proofs.Meaning.{matrix-product, row-product, bare-exactly, com
 use Rattle.encoding.specs.Limits.{maxRows, wordsOf}
 use Rattle.encoding.specs.Words.{bitAt}
 use Rattle.encoding.specs.Set.{Mem, count, exponentAt, rowsIn, rowsOf, list, lay, Valid, Sound, stateOf, layState}
-use Rattle.encoding.specs.Refusals.{fault, joined, setTests, numberTests, stateTests, tooLarge, leftOr}
-use Rattle.encoding.proofs.Faults.{joined-fault, least-none, First, done-none, refused-iff}
+use Rattle.encoding.specs.Refusals.{rowLines, stateLines, tooLarge, Readable, leftOr}
+use Rattle.encoding.specs.Ranks.{TableLine, byRank}
+use Rattle.encoding.proofs.Faults.{least-none, done-none}
+use Rattle.encoding.proofs.Ranks.{joined-fault, Given, given-iff}
 use Rattle.encoding.proofs.Memory.{row-count, read-lay, valid-lay, count-lay, Proper}
 use Rattle.encoding.proofs.Parts.{length-list, getD-list}
 use Rattle.pauli.proofs.Lists.{length-each}
@@ -35,14 +37,13 @@ use Rattle.encoding.proofs.States.{state-long, length-state, state-back}
 use Rattle.encoding.proofs.Exponents.{exponent-small}
 use Rattle.encoding.proofs.Sets.{read-passes, same-phases}
 use Rattle.cmpnt_list.specs.Calls.{gotOr, tallyOr, phaseOr, truthOr, rowFault, rowsFault, qubitFault, matrixFault, pairwiseFault, actionFault, laidMatrix, commuting, pairs, pairNumbers, getQubit, SetQubit, countIn, phaseOfMul, commutesWith, belongsToCentralizer, CompatibilityMatrix, MulPairwise, ImulState}
-use Rattle.cmpnt_list.specs.Workers.{Asked}
 use Rattle.cmpnt_list.specs.declared.Got.the-variants as got
 use Rattle.cmpnt_list.specs.declared.Tally.the-variants as tally
 use Rattle.cmpnt_list.specs.declared.Phase.{Phase}
 use Rattle.cmpnt_list.specs.declared.Phase.the-variants as phase
 use Rattle.cmpnt_list.specs.declared.Truth.the-variants as truth
 use Rattle.cmpnt_list.proofs.OneQubit.{with-here, with-other}
-use Rattle.cmpnt_list.proofs.Tests.{Words64, asked-of, pairwise-asked, both-small}
+use Rattle.cmpnt_list.proofs.Tests.{Words64, asked-of, pairwise-asked, both-small, state-parts}
 
 -- ---- a call that gives a value refuses nothing, and the value is the definition's
 
@@ -65,29 +66,29 @@ phase-is (suc k) v e q = let z : _≡_ {A = ℕ} 0 1 = cc in absurd (omega arith
 
 -- ---- refusals: the number k + 1 is given exactly when its line of the table fits the call and none before it does
 
-pub got-refused : (p : Pauli) (ts : List Bool) (k : ℕ) → (gotOr (fault ts) p ≡ got.Refused (suc k)) ↔ First ts k
-got-refused p = refused-iff got.Refused (λ f. gotOr f p) (λ k. refl) only
+pub got-refused : (p : Pauli) (ls : List TableLine) (k : ℕ) → (gotOr (byRank ls) p ≡ got.Refused (suc k)) ↔ Given (suc k) ls
+got-refused p = given-iff got.Refused (λ f. gotOr f p) (λ k. refl) only
   where
     only : (f k : ℕ) → gotOr f p ≡ got.Refused (suc k) → f ≡ suc k
     only zero k e = let z : _≡_ {A = ℕ} 0 1 = cc in absurd (omega arith)
     only (suc f) k e = cc
 
-pub tally-refused : (c : ℕ) (ts : List Bool) (k : ℕ) → (tallyOr (fault ts) c ≡ tally.Refused (suc k)) ↔ First ts k
-tally-refused c = refused-iff tally.Refused (λ f. tallyOr f c) (λ k. refl) only
+pub tally-refused : (c : ℕ) (ls : List TableLine) (k : ℕ) → (tallyOr (byRank ls) c ≡ tally.Refused (suc k)) ↔ Given (suc k) ls
+tally-refused c = given-iff tally.Refused (λ f. tallyOr f c) (λ k. refl) only
   where
     only : (f k : ℕ) → tallyOr f c ≡ tally.Refused (suc k) → f ≡ suc k
     only zero k e = let z : _≡_ {A = ℕ} 0 1 = cc in absurd (omega arith)
     only (suc f) k e = cc
 
-pub phase-refused : (v : ℕ) (ts : List Bool) (k : ℕ) → (phaseOr (fault ts) v ≡ phase.Refused (suc k)) ↔ First ts k
-phase-refused v = refused-iff phase.Refused (λ f. phaseOr f v) (λ k. refl) only
+pub phase-refused : (v : ℕ) (ls : List TableLine) (k : ℕ) → (phaseOr (byRank ls) v ≡ phase.Refused (suc k)) ↔ Given (suc k) ls
+phase-refused v = given-iff phase.Refused (λ f. phaseOr f v) (λ k. refl) only
   where
     only : (f k : ℕ) → phaseOr f v ≡ phase.Refused (suc k) → f ≡ suc k
     only zero k e = let z : _≡_ {A = ℕ} 0 1 = cc in absurd (omega arith)
     only (suc f) k e = cc
 
-pub truth-refused : (b : Bool) (ts : List Bool) (k : ℕ) → (truthOr (fault ts) b ≡ truth.Refused (suc k)) ↔ First ts k
-truth-refused b = refused-iff truth.Refused (λ f. truthOr f b) (λ k. refl) only
+pub truth-refused : (b : Bool) (ls : List TableLine) (k : ℕ) → (truthOr (byRank ls) b ≡ truth.Refused (suc k)) ↔ Given (suc k) ls
+truth-refused b = given-iff truth.Refused (λ f. truthOr f b) (λ k. refl) only
   where
     only : (f k : ℕ) → truthOr f b ≡ truth.Refused (suc k) → f ≡ suc k
     only zero k e = let z : _≡_ {A = ℕ} 0 1 = cc in absurd (omega arith)
@@ -166,7 +167,7 @@ module _ (n : ℕ) {M : Mem} {out out′ : List ℕ} (c : CompatibilityMatrix n 
 
 -- ---- cmpnts_mul_pairwise: the matrix of a row that is written is the product of the matrices of left and right, each with its phase
 
-module _ (n : ℕ) {L R O O′ : Mem} {cs cs′ : List ℕ} (wl : Words64 L) (wr : Words64 R) (same : count R ≡ count L) (c : MulPairwise n L R O O′ cs cs′ Done) where
+module _ (n : ℕ) {L R O O′ : Mem} {cs cs′ : List ℕ} (wl : Words64 L) (wr : Words64 R) (c : MulPairwise n L R O O′ cs cs′ Done) where
   no-fault : pairwiseFault n L R O (length cs) ≡ 0
   no-fault = done-none (pairwiseFault n L R O (length cs)) (sym (c .answer))
 
@@ -178,7 +179,7 @@ module _ (n : ℕ) {L R O O′ : Mem} {cs cs′ : List ℕ} (wl : Words64 L) (wr
       let g = pairwise-asked n O (length cs) wl wr no-fault in
       let v = g .left .valid in
       let l = row-count n w v k h in
-      let r = row-count n w (g .right .valid) k (subst (λ (j : ℕ). k < j) (sym same) h) in
+      let r = row-count n w (g .right .valid) k (subst (λ (j : ℕ). k < j) (sym (c .one-m)) h) in
       let p = rowsOf n L k .ps in
       let q = rowsOf n R k .ps in
       ap (λ (N : Mem). rowsOf n N k) (c .rows ∙ ap (λ (j : ℕ). leftOr j O (lay n m (pairs n L R))) no-fault)
@@ -219,9 +220,9 @@ module _ (n : ℕ) {M : Mem} (w : Words64 M) (r : ℕ) {st st′ : List ℕ} {e 
   pub nothing : actionFault n M r st ≡ 0
   nothing = phase-is (actionFault n M r st) (actPhaseOn n (rowsOf n M r) (stateOf n st)) e (sym (c .answer)) .0
 
-  pub parts-ok : (rowFault n M r ≡ 0) × (fault (stateTests n st) ≡ 0)
+  pub parts-ok : (rowFault n M r ≡ 0) × (byRank (stateLines n st) ≡ 0)
   parts-ok =
-      least-none (rowFault n M r) (fault (stateTests n st)) (joined-fault (joined (setTests n M) (numberTests (tooLarge (count M) r))) (stateTests n st) ∙ nothing)
+      least-none (rowFault n M r) (byRank (stateLines n st)) (joined-fault (rowLines n M r) (stateLines n st) (state-parts n M (tooLarge (count M) r) st) ∙ nothing)
 
   row-long : length (rowsOf n M r .ps) ≡ n
   unfolding rowsIn
@@ -247,13 +248,13 @@ module _ (n : ℕ) {M : Mem} (w : Words64 M) (r : ℕ) {st st′ : List ℕ} {e 
       ∙ ap₂ (λ (k : ℕ) (s : List Bool). ipow k ⊗ basis s v)
       (phase-is (actionFault n M r st) (actPhaseOn n (rowsOf n M r) (stateOf n st)) e (sym (c .answer)) .1) (sym state-meaning)
 
--- ---- set_qubit: the Pauli that was set is read back; every other qubit, every other row and every phase byte is as it was
+-- ---- set_qubit: the Pauli that was set is read back; every other qubit, every other row and every exponent is as it was
 
 module _ (n : ℕ) {M : Mem} (w : Words64 M) (r q : ℕ) (p : Pauli) {M′ : Mem} (c : SetQubit n M r q p M′ Done) where
   none-fits : qubitFault n M r q ≡ 0
   none-fits = done-none (qubitFault n M r q) (sym (c .answer))
 
-  asked : Asked n M (tooLarge (count M) r || tooLarge n q)
+  asked : Readable n M (tooLarge (count M) r || tooLarge n q)
   asked = asked-of n w (tooLarge (count M) r || tooLarge n q) none-fits
 
   numbers : (r < count M) × (q < n)

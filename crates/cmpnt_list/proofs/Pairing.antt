@@ -22,7 +22,7 @@ use Rattle.encoding.specs.Words.{pack}
 use Rattle.encoding.specs.Set.{row, Mem, memOf, count, phaseUnits, exponentIn, withIn, exponentAt, inRows, layExponents, rowsIn, rowsOf, lay}
 use Rattle.encoding.proofs.Parts.{length-list, getD-list}
 use Rattle.encoding.proofs.Memory.{x-row}
-use Rattle.encoding.proofs.Exponents.{in-small, in-none, in-same, in-other, code-fits, up-in, up-out, laid-words}
+use Rattle.encoding.proofs.Exponents.{in-small, in-none, in-same, in-other, with-fits, up-in, up-out, laid-words}
 use Rattle.encoding.proofs.WordLaws.{Fit}
 use Rattle.encoding.proofs.RowWords.{inWords, product-is, phase-is, clashes-fit}
 use Rattle.encoding.proofs.Sets.{laid-by}
@@ -194,7 +194,7 @@ module _ (n : ℕ) {L R : Mem} (b : BothReady n L R) (same : count R ≡ count L
   pub row-done : {ox oz ox′ oz′ cs : List ℕ} {j r v u e m a z : ℕ} {p : Factor} → r < count L → r / 32 ≡ j → RowAt r (wordsOf n) m a z
       → ProductAt a z (L .xs) (L .zs) (R .xs) (R .zs) ox oz ox′ oz′ p → e ≡ (exponentAt (L .es) r + exponentAt (R .es) r + p .phase .0) % 4
       → u ≡ withIn v (r % 32) e → Written n L R r ox oz cs → PhasesOf n L R j r v → Written n L R (r + 1) ox′ oz′ (set cs r (p .clashes)) × PhasesOf n L R j (r + 1) u
-  row-done {ox} {oz} {ox′} {oz′} {cs} {j} {r} {v} {u} {e} {m} {a} {z} {p} hr hj at q he hu h f = (one-more hr q′ h, record { fits = subst (λ (x : ℕ). x < 2 ^ 64) (sym hu) (code-fits v (r % 32) e (omega arith) (f .fits)); each = λ k i. exps k i (ℕ-discrete k (r % 32)) })
+  row-done {ox} {oz} {ox′} {oz′} {cs} {j} {r} {v} {u} {e} {m} {a} {z} {p} hr hj at q he hu h f = (one-more hr q′ h, record { fits = subst (λ (x : ℕ). x < 2 ^ 64) (sym hu) (with-fits v (r % 32) e); each = λ k i. exps k i (ℕ-discrete k (r % 32)) })
     where
       q′ : ProductAt (r * wordsOf n) (r * wordsOf n + wordsOf n) (L .xs) (L .zs) (R .xs) (R .zs) ox oz ox′ oz′ p
       q′ =
@@ -210,11 +210,11 @@ module _ (n : ℕ) {L R : Mem} (b : BothReady n L R) (same : count R ≡ count L
       exps : (k : ℕ) → k < 32 → Dec (k ≡ r % 32) → exponentIn u k ≡ inRows (r + 1) g (j * 32 + k)
       exps k i (yes d) =
           ap₂ exponentIn hu d
-          ∙ in-same v (r % 32) e
+          ∙ in-same v (r % 32) e (omega arith)
           ∙ (let s : e % 4 ≡ e = omega arith in s)
           ∙ one-exponent hr q′ he
           ∙ sym (ap (inRows (r + 1) g) (here k d) ∙ up-in (r + 1) g r (omega arith))
-      exps k i (no d) = ap (λ (x : ℕ). exponentIn x k) hu ∙ in-other v (r % 32) e k d ∙ f .each k i ∙ up-same (decLt (j * 32 + k) r)
+      exps k i (no d) = ap (λ (x : ℕ). exponentIn x k) hu ∙ in-other v (r % 32) e k i d ∙ f .each k i ∙ up-same (decLt (j * 32 + k) r)
         where
           up-same : Dec (j * 32 + k < r) → inRows r g (j * 32 + k) ≡ inRows (r + 1) g (j * 32 + k)
           up-same (yes l) = up-in r g (j * 32 + k) l ∙ sym (up-in (r + 1) g (j * 32 + k) (omega arith))

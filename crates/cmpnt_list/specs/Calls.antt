@@ -1,7 +1,7 @@
 -- RULES 4, "Products and actions", and 9, "Refusals", call by call over a row set: the tests that a call makes, what it answers, and what stands
 -- in each lent buffer when it returns. M is a set in memory and n its number of qubits; a refusal leaves every buffer as it was. Assumes nothing.
 use mathlib.Core.Path.{_≡_}
-use mathlib.Core.Bool.{Bool, false, not, _||_}
+use mathlib.Core.Bool.{Bool, not, _||_}
 use mathlib.Core.List.{List, [], _∷_}
 use Prim.Native.Nat.{ℕ, zero, suc, _*_}
 use lib.Dec.{eqb}
@@ -13,7 +13,8 @@ use Rattle.pauli.specs.Rows.{phaseOf, clashesOf, commute, central, countOf, wit
 use Rattle.encoding.specs.Limits.{wordsOf}
 use Rattle.encoding.specs.Words.{layRows}
 use Rattle.encoding.specs.Set.{Mem, count, rowsOf, list, lay, stateOf, layState}
-use Rattle.encoding.specs.Refusals.{fault, joined, manyRows, setTests, outTests, stateTests, tooLarge, readTests, rowTests, rowsTests, doneOr, leftOr}
+use Rattle.encoding.specs.Refusals.{manyRows, setLines, outLines, stateLines, tooLarge, readLines, rowLines, rowsLines, doneOr, leftOr}
+use Rattle.encoding.specs.Ranks.{TableLine, line, byRank, joined}
 use Rattle.encoding.specs.declared.Answer.{Answer}
 use Rattle.cmpnt_list.specs.declared.Got.{Got}
 use Rattle.cmpnt_list.specs.declared.Got.the-variants as got
@@ -44,18 +45,15 @@ truthOr (suc k) b = truth.Refused (suc k)
 
 -- ---- calls that read one set: the set is tested whole, then the numbers
 
-abbrev pub readFault : ℕ → Mem → Bool → ℕ
-readFault n M large = fault (readTests n M large)
-
 -- one row, two rows, a qubit of a row
 abbrev pub rowFault : ℕ → Mem → ℕ → ℕ
-rowFault n M r = fault (rowTests n M r)
+rowFault n M r = byRank (rowLines n M r)
 
 abbrev pub rowsFault : ℕ → Mem → ℕ → ℕ → ℕ
-rowsFault n M a b = fault (rowsTests n M a b)
+rowsFault n M a b = byRank (rowsLines n M a b)
 
 abbrev pub qubitFault : ℕ → Mem → ℕ → ℕ → ℕ
-qubitFault n M r q = readFault n M (tooLarge (count M) r || tooLarge n q)
+qubitFault n M r q = byRank (readLines n M (tooLarge (count M) r || tooLarge n q))
 
 -- get_qubit: the Pauli at qubit q of row r
 unfoldable pub getQubit : ℕ → Mem → ℕ → ℕ → Got
@@ -86,11 +84,11 @@ pub record SetQubit (n : ℕ) (M : Mem) (r q : ℕ) (p : Pauli) (M′ : Mem) (a 
 -- ---- compatibility_matrix: m rows of (m/64 rounded up) words, bit j of row i for rows i and j, spare bits zero
 
 -- 2: m above its limit; 3: the lent words are not as many as the matrix has
-abbrev pub matrixTests : ℕ → ℕ → List Bool
-matrixTests m size = false ∷ manyRows m ∷ not (eqb size (m * wordsOf m)) ∷ []
+abbrev pub matrixLines : ℕ → ℕ → List TableLine
+matrixLines m size = line 2 (manyRows m) ∷ line 3 (not (eqb size (m * wordsOf m))) ∷ []
 
 abbrev pub matrixFault : ℕ → Mem → ℕ → ℕ
-matrixFault n M size = fault (joined (setTests n M) (matrixTests (count M) size))
+matrixFault n M size = byRank (joined (setLines n M) (matrixLines (count M) size))
 
 -- an m by m matrix of bits, laid in words
 abbrev pub laidMatrix : ℕ → (ℕ → ℕ → Bool) → List ℕ
@@ -107,11 +105,11 @@ pub record CompatibilityMatrix (n : ℕ) (M : Mem) (out out′ : List ℕ) (a : 
 -- ---- cmpnts_mul_pairwise: row i of the third set is left i times right i, by the product that rows of one set have, and number i that of the clashes
 
 -- 3: the lent numbers are q, not m
-abbrev pub otherLengths : ℕ → ℕ → List Bool
-otherLengths m q = false ∷ false ∷ not (eqb q m) ∷ []
+abbrev pub clashLines : ℕ → ℕ → List TableLine
+clashLines m q = line 3 (not (eqb q m)) ∷ []
 
 abbrev pub pairwiseFault : ℕ → Mem → Mem → Mem → ℕ → ℕ
-pairwiseFault n L R O q = fault (joined (joined (setTests n L) (setTests n R)) (joined (otherLengths (count L) q) (outTests n O)))
+pairwiseFault n L R O q = byRank (joined (joined (setLines n L) (setLines n R)) (joined (clashLines (count L) q) (outLines n O)))
 
 abbrev pub pairs : ℕ → Mem → Mem → ℕ → Row
 pairs n L R k = mulRow n (rowsOf n L k) (rowsOf n R k)
@@ -120,6 +118,8 @@ abbrev pub pairNumbers : ℕ → Mem → Mem → List ℕ
 pairNumbers n L R = list (count L) (λ k. clashesOf n (rowsOf n L k) (rowsOf n R k))
 
 pub record MulPairwise (n : ℕ) (L R O O′ : Mem) (cs cs′ : List ℕ) (a : Answer) : Type 0 where
+  -- both have the m of the call
+  pub one-m : count R ≡ count L
   pub answer : a ≡ doneOr (pairwiseFault n L R O (length cs))
   pub rows : O′ ≡ leftOr (pairwiseFault n L R O (length cs)) O (lay n (count L) (pairs n L R))
   pub numbers : cs′ ≡ leftOr (pairwiseFault n L R O (length cs)) cs (pairNumbers n L R)
@@ -128,7 +128,7 @@ pub record MulPairwise (n : ℕ) (L R O O′ : Mem) (cs cs′ : List ℕ) (a : A
 
 -- the state's length (3) and its bits at n and above (4) are tested with the set and the row number
 abbrev pub actionFault : ℕ → Mem → ℕ → List ℕ → ℕ
-actionFault n M r st = fault (joined (rowTests n M r) (stateTests n st))
+actionFault n M r st = byRank (joined (rowLines n M r) (stateLines n st))
 
 pub record ImulState (n : ℕ) (M : Mem) (r : ℕ) (st st′ : List ℕ) (a : Phase) : Type 0 where
   pub answer : a ≡ phaseOr (actionFault n M r st) (actPhaseOn n (rowsOf n M r) (stateOf n st))

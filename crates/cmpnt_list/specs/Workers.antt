@@ -1,7 +1,7 @@
 -- What the private functions ask and leave: a set that passed its tests, where a row lies in it, what the masks count, and how far the loops over
 -- pairs of rows and over the rows of a product have come. Assumes nothing.
 use mathlib.Core.Path.{_≡_}
-use mathlib.Core.Bool.{Bool, false, cond}
+use mathlib.Core.Bool.{cond}
 use mathlib.Core.List.{List}
 use Prim.Native.Nat.{ℕ, _+_, _-_, _*_, _^_, _≤_, _<_}
 use lib.Dec.{ltb}
@@ -15,12 +15,7 @@ use Rattle.encoding.specs.Words.{pack}
 use Rattle.encoding.specs.Set.{row, Mem, count, phaseUnits, exponentIn, inRows, rowsOf, Sound, stateOf, layState}
 use Rattle.cmpnt_list.specs.Calls.{pairs}
 
--- no test of the set holds, and no number is too large
-pub record Asked (n : ℕ) (M : Mem) (large : Bool) : Type 0 where
-  pub ready : Sound n M
-  pub small : large ≡ false
-
--- the same of a set whose matrix is lent in size words
+-- a row set within the limits whose matrix is lent in size words
 pub record AskedMatrix (n : ℕ) (M : Mem) (size : ℕ) : Type 0 where
   pub ready : Sound n M
   pub fits : size ≡ count M * wordsOf (count M)

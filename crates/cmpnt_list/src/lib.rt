@@ -9,10 +9,11 @@ ghost use Rattle.encoding.specs.Limits.{maxQubits, maxRows, maxWords, wordsOf};
 ghost use Rattle.encoding.specs.Words.{word, unpack};
 ghost use Rattle.encoding.specs.Set.{phaseUnits, exponentAt, rowsOf, lay, Sound};
 ghost use Rattle.encoding.specs.Lent.{lent, before, after, bitsLent, bitsBefore, bitsAfter};
-ghost use Rattle.encoding.specs.Refusals.{fault, joined, setTests, outTests, stateTests};
+ghost use Rattle.encoding.specs.Refusals.{setLines, outLines, stateLines};
+ghost use Rattle.encoding.specs.Ranks.{byRank, joined};
 ghost use Rattle.products.specs.Leaves.{SameLength, ProductAt};
-ghost use Rattle.cmpnt_list.specs.Calls.{readFault, matrixTests, matrixFault, laidMatrix, commuting, otherLengths, pairs, pairNumbers, getQubit, SetQubit, countIn, phaseOfMul, commutesWith, belongsToCentralizer, CompatibilityMatrix, MulPairwise, ImulState};
-ghost use Rattle.cmpnt_list.specs.Workers.{Asked, AskedMatrix, BothReady, ThirdReady, RowAt, wordEnd, Written, PhasesOf, masked, fromMasks, StateActed};
+ghost use Rattle.cmpnt_list.specs.Calls.{matrixLines, matrixFault, laidMatrix, commuting, clashLines, pairs, pairNumbers, getQubit, SetQubit, countIn, phaseOfMul, commutesWith, belongsToCentralizer, CompatibilityMatrix, MulPairwise, ImulState};
+ghost use Rattle.cmpnt_list.specs.Workers.{AskedMatrix, BothReady, ThirdReady, RowAt, wordEnd, Written, PhasesOf, masked, fromMasks, StateActed};
 use encoding::Answer;
 use pauli::ComplexSign;
 use pauli::PauliMatrix;
@@ -46,17 +47,6 @@ pub enum Truth {
 
 // Where a row starts, and where it ends.
 struct Span(usize, usize);
-
-// The first number of the table that fits a set that is read and its call's numbers, or 0; large says that a number is too large.
-pub fn row_fault(n: usize, m: usize, x: &[u64], z: &[u64], phases: &[u64], large: bool) -> u8
-    ensures { λ r. ⌜ r ≡ readFault n (before m x z phases) large ⌝ }
-    ensures none { λ r. ⌜ (r ≡ 0 → Asked n (before m x z phases) large) ⌝ }
-{
-    encoding::smaller(
-        encoding::set_fault(n, m, x, z, phases),
-        encoding::pick(large, 6, 0),
-    )
-}
 
 // Where row r of m rows of n qubits lies.
 fn row_span(r: usize, n: usize, m: usize) -> Span
@@ -94,7 +84,7 @@ pub fn get_qubit(
 {
     let a = m <= row.0;
     let b = n <= qubit.0;
-    let f = row_fault(n, m, x, z, phases, a | b);
+    let f = encoding::row_fault(n, m, x, z, phases, a | b);
     if f != 0 {
         return Got::Refused(f);
     }
@@ -136,7 +126,7 @@ pub fn set_qubit(
 {
     let a = m <= row.0;
     let b = n <= qubit.0;
-    let f = row_fault(n, m, x, z, phases, a | b);
+    let f = encoding::row_fault(n, m, x, z, phases, a | b);
     if f != 0 {
         return Answer::Refused(f);
     }
@@ -217,7 +207,7 @@ pub fn count(
 ) -> Tally
     ensures { λ a. ⌜ a ≡ countIn n (before m x z phases) (row .0) pauli ⌝ }
 {
-    let f = row_fault(n, m, x, z, phases, m <= row.0);
+    let f = encoding::row_fault(n, m, x, z, phases, m <= row.0);
     if f != 0 {
         return Tally::Refused(f);
     }
@@ -254,7 +244,7 @@ pub fn phase_of_mul(
 {
     let i = m <= a.0;
     let j = m <= b.0;
-    let f = row_fault(n, m, x, z, phases, i | j);
+    let f = encoding::row_fault(n, m, x, z, phases, i | j);
     if f != 0 {
         return Phase::Refused(f);
     }
@@ -298,7 +288,7 @@ pub fn phase_of_mul_by_table(
 {
     let i = m <= a.0;
     let j = m <= b.0;
-    let f = row_fault(n, m, x, z, phases, i | j);
+    let f = encoding::row_fault(n, m, x, z, phases, i | j);
     if f != 0 {
         return Phase::Refused(f);
     }
@@ -334,7 +324,7 @@ pub fn commutes_with(
 {
     let i = m <= a.0;
     let j = m <= b.0;
-    let f = row_fault(n, m, x, z, phases, i | j);
+    let f = encoding::row_fault(n, m, x, z, phases, i | j);
     if f != 0 {
         return Truth::Refused(f);
     }
@@ -368,7 +358,7 @@ pub fn belongs_to_centralizer(
 ) -> Truth
     ensures { λ a. ⌜ a ≡ belongsToCentralizer n (before m x z phases) (row .0) ⌝ }
 {
-    let f = row_fault(n, m, x, z, phases, m <= row.0);
+    let f = encoding::row_fault(n, m, x, z, phases, m <= row.0);
     if f != 0 {
         return Truth::Refused(f);
     }
@@ -385,7 +375,7 @@ fn matrix_size(m: usize) -> usize
 
 // The first number of the table that fits an m by m matrix that is lent in size words, or 0.
 fn square_fault(m: usize, size: usize) -> u8
-    ensures { λ r. ⌜ r ≡ fault (matrixTests m size) ⌝ }
+    ensures { λ r. ⌜ r ≡ byRank (matrixLines m size) ⌝ }
 {
     if encoding::MAX_ROWS < m {
         return 2;
@@ -444,7 +434,7 @@ fn both_fault(
     rz: &[u64],
     rp: &[u64],
 ) -> u8
-    ensures { λ r. ⌜ r ≡ fault (joined (setTests n (before m lx lz lp)) (setTests n (before m rx rz rp))) ⌝ }
+    ensures { λ r. ⌜ r ≡ byRank (joined (setLines n (before m lx lz lp)) (setLines n (before m rx rz rp))) ⌝ }
     ensures none { λ r. ⌜ (r ≡ 0 → BothReady n (before m lx lz lp) (before m rx rz rp)) ⌝ }
 {
     encoding::smaller(
@@ -455,7 +445,7 @@ fn both_fault(
 
 // The first number that fits q lent numbers and a third set that is written, both of m rows, or 0.
 fn third_fault(n: usize, m: usize, q: usize, ox: &[u64], oz: &[u64], op: &[u64]) -> u8
-    ensures { λ r. ⌜ r ≡ fault (joined (otherLengths m q) (outTests n (before m ox oz op))) ⌝ }
+    ensures { λ r. ⌜ r ≡ byRank (joined (clashLines m q) (outLines n (before m ox oz op))) ⌝ }
     ensures none { λ r. ⌜ (r ≡ 0 → ThirdReady n q (before m ox oz op)) ⌝ }
 {
     encoding::smaller(
@@ -528,7 +518,8 @@ fn mul_word(
     requires { ⌜ BothReady n (lent m lx lz lp) (lent m rx rz rp) ⌝ }
     requires { ⌜ (j < phaseUnits m) × Written n (lent m lx lz lp) (lent m rx rz rp) (j * 32) (now ox) (now oz) (now clashes) ⌝ }
     ensures { λ v. ⌜ PhasesOf n (before m lx lz lp) (before m rx rz rp) j m v ⌝ }
-    ensures rows { λ v. ⌜ Written n (before m lx lz lp) (before m rx rz rp) (wordEnd m j) (now (ox .exit)) (now (oz .exit)) (now (clashes .exit)) ⌝ }
+    ensures rows { λ v. ⌜ Written n (before m lx lz lp) (before m rx rz rp) (wordEnd m j)
+        (now (ox .exit)) (now (oz .exit)) (now (clashes .exit)) ⌝ }
 {
     let end = rows_end(j, m);
     let mut word = 0u64;
@@ -606,7 +597,7 @@ pub fn cmpnts_mul_pairwise(
 // Row r acts on a basis state.
 fn act_on(n: usize, m: usize, x: &[u64], z: &[u64], r: usize, state: &mut [u64]) -> ComplexSign
     requires { ⌜ Sound n (bitsLent m x z) ⌝ }
-    requires { ⌜ (r < m) × (fault (stateTests n (now state)) ≡ 0) ⌝ }
+    requires { ⌜ (r < m) × (byRank (stateLines n (now state)) ≡ 0) ⌝ }
     ensures { λ e. ⌜ StateActed n (rowsOf n (bitsBefore m x z) r) (now (state .entry)) (now (state .exit)) (e .0) ⌝ }
 {
     let s = row_span(r, n, m);
@@ -628,7 +619,7 @@ pub fn imul_state(
     ensures { λ a. ⌜ ImulState n (before m x z phases) (row .0) (now (state .entry)) (now (state .exit)) a ⌝ }
 {
     let f = encoding::smaller(
-        row_fault(n, m, x, z, phases, m <= row.0),
+        encoding::row_fault(n, m, x, z, phases, m <= row.0),
         encoding::state_fault(n, state),
     );
     if f != 0 {

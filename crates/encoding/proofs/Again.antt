@@ -14,7 +14,8 @@ use Rattle.pauli.specs.Row.{Row}
 use Rattle.encoding.specs.Limits.{maxQubits, maxRows, wordsOf}
 use Rattle.encoding.specs.Words.{unbits}
 use Rattle.encoding.specs.Set.{lay, layState}
-use Rattle.encoding.specs.Refusals.{faultFrom, fault, setTests, stateTests}
+use Rattle.encoding.specs.Refusals.{setLines, stateLines}
+use Rattle.encoding.specs.Ranks.{byRank}
 use Rattle.encoding.proofs.BitLaws.{bit-pack}
 use Rattle.encoding.proofs.Memory.{Proper, valid-lay, count-lay}
 use Rattle.encoding.proofs.Padding.{Only, of-only}
@@ -22,7 +23,7 @@ use Rattle.encoding.proofs.Reading.{length-pack}
 use Rattle.encoding.proofs.Sets.{set-passes}
 use Rattle.encoding.proofs.States.{unbits-at, length-unbits}
 
-pub lay-passes : (n m : ℕ) (σ : ℕ → Row) → n ≤ maxQubits → m ≤ maxRows → Proper n m σ → fault (setTests n (lay n m σ)) ≡ 0
+pub lay-passes : (n m : ℕ) (σ : ℕ → Row) → n ≤ maxQubits → m ≤ maxRows → Proper n m σ → byRank (setLines n (lay n m σ)) ≡ 0
 lay-passes n m σ few-qubits few-rows p =
     let w = wordsOf n in
     let wide : n ≤ w * 64 = omega arith in
@@ -48,7 +49,7 @@ module _ (n : ℕ) (s : List Bool) (e : length s ≡ n) where
           ∙ List·getD-eq-default s false (omega arith)
       go (no h) = List·getD-eq-default (unbits (layState n s)) false (omega (arith, length-unbits (layState n s), laid-long))
 
-  pub state-passes : n ≤ maxQubits → fault (stateTests n (layState n s)) ≡ 0
-  unfolding faultFrom
+  pub state-passes : n ≤ maxQubits → byRank (stateLines n (layState n s)) ≡ 0
+  unfolding byRank
   state-passes few =
       simp (le-ltb maxQubits n few, eq-eqb (length (layState n s)) (wordsOf n) laid-long, of-only (λ (b : Bool). b) false refl (drop n (unbits (layState n s))) spare)

@@ -7,7 +7,8 @@ use Prim.Native.Nat.{ℕ, zero, suc, _+_, _-_, _*_, _/_, _%_, _^_, _≤_, _<_, s
 use native.Mathlib.Nat.{div-one, zero-div, not-suc-le-zero, le-of-suc-le-suc, mod-lt, div-add-mod', zero-lt-suc, lt-of-le-of-lt}
 use native.Mathlib.Decide.{decLt, ℕ-discrete}
 use native.Mathlib.Omega.{arith}
-use borrow.Author.Tests.{lt-ltb, le-ltb, eqb-true, eq-eqb, not-false}
+use borrow.Author.Tests.{lt-ltb, le-ltb, eqb-true, eq-eqb, ne-eqb, not-false}
+use lib.Dec.{eqb}
 use lib.Arith.{lt-one, digits-lt}
 use lib.Pow.{pow-pos, pow-add, shr-shr, shr-lt, shr-le, shl-exact, high, low, field, mod-mod-pow}
 use lib.ListN.{length, getD, set, length-set, List·getD-eq-default}
@@ -65,31 +66,23 @@ word-at (suc d) f (suc k) h =
 
 -- ---- one of a word is made e
 
+abbrev withAt : ℕ → ℕ → ℕ → ℕ → ℕ
+withAt v k e j = cond (eqb j k) e (exponentIn v j)
+
 module _ (v k e : ℕ) where
-  rest-lt : v % 2 ^ (2 * k) < 2 ^ (2 * k)
-  rest-lt = mod-lt v (pow-pos (2 * k))
-
-  with-high : withIn v k e / 2 ^ (2 * k) ≡ v / 2 ^ (2 * k) / 4 * 4 + e % 4
+  pub in-same : k < 32 → exponentIn (withIn v k e) k ≡ e % 4
   unfolding withIn
-  with-high = high (v / 2 ^ (2 * k) / 4 * 4 + e % 4) (2 * k) rest-lt
+  in-same h = word-at 32 (withAt v k e) k h ∙ ap (λ (b : Bool). cond b e (exponentIn v k) % 4) (eq-eqb k k refl)
 
-  with-low : withIn v k e % 2 ^ (2 * k) ≡ v % 2 ^ (2 * k)
+  pub in-other : (j : ℕ) → j < 32 → (j ≡ k → ⊥) → exponentIn (withIn v k e) j ≡ exponentIn v j
   unfolding withIn
-  with-low = low (v / 2 ^ (2 * k) / 4 * 4 + e % 4) (2 * k) rest-lt
+  in-other j h ne =
+      let s = in-small v j in
+      word-at 32 (withAt v k e) j h ∙ ap (λ (b : Bool). cond b e (exponentIn v j) % 4) (ne-eqb j k ne) ∙ omega arith
 
-  pub in-same : exponentIn (withIn v k e) k ≡ e % 4
-  in-same = ap (λ (x : ℕ). x % 4) with-high ∙ omega arith
-
-  with-small : (d : ℕ) → k < d → v < 2 ^ (2 * d) → withIn v k e < 2 ^ (2 * d)
+  pub with-fits : withIn v k e < 2 ^ 64
   unfolding withIn
-  with-small d l h =
-      let i = 2 * d - 2 * k - 2 in
-      let s : 2 * d ≡ (i + 2) + 2 * k = omega arith in
-      let a : v / 2 ^ (2 * k) < 2 ^ (i + 2) = shr-lt (i + 2) (2 * k) (subst (λ (x : ℕ). v < 2 ^ x) s h) in
-      let b : v / 2 ^ (2 * k) < 2 ^ i * 4 = subst (λ (x : ℕ). v / 2 ^ (2 * k) < x) (pow-add 2 i 2) a in
-      let c : v / 2 ^ (2 * k) / 4 * 4 + e % 4 < 2 ^ i * 4 = omega arith in
-      let q : 2 ^ i * 4 * 2 ^ (2 * k) ≡ 2 ^ (2 * d) = ap (λ (x : ℕ). x * 2 ^ (2 * k)) (sym (pow-add 2 i 2)) ∙ sym (pow-add 2 (i + 2) (2 * k)) ∙ ap (λ (x : ℕ). 2 ^ x) (sym s) in
-      subst (λ (x : ℕ). withIn v k e < x) q (digits-lt c rest-lt)
+  with-fits = word-small 32 (withAt v k e)
 
 -- one below place k is given by the rest at k, one above it by what lies above
 below : (x y k j : ℕ) → j < k → x % 2 ^ (2 * k) ≡ y % 2 ^ (2 * k) → exponentIn x j ≡ exponentIn y j
@@ -116,34 +109,47 @@ beyond x y k j l e = at x ∙ ap (λ (z : ℕ). z / 2 ^ i % 4) e ∙ sym (at y)
     at : (x : ℕ) → exponentIn x j ≡ x / 2 ^ (2 * k) / 4 / 2 ^ i % 4
     at x = ap (λ (z : ℕ). x / 2 ^ z % 4) (sym s) ∙ ap (λ (z : ℕ). z % 4) (sym (shr-shr x (2 * k + 2) i) ∙ ap (λ (z : ℕ). z / 2 ^ i) (sym (shr-shr x (2 * k) 2)))
 
-pub in-other : (v k e j : ℕ) → (j ≡ k → ⊥) → exponentIn (withIn v k e) j ≡ exponentIn v j
-in-other v k e j ne = go (decLt j k)
-  where
-    go : Dec (j < k) → exponentIn (withIn v k e) j ≡ exponentIn v j
-    go (yes l) = below (withIn v k e) v k j l (with-low v k e)
-    go (no l) = beyond (withIn v k e) v k j (omega arith) (ap (λ (z : ℕ). z / 4) (with-high v k e) ∙ omega arith)
-
--- as the code does it: with shifts, of which none loses a bit
+-- as the code does it: what lies above it, e mod 4, what lies below it, with shifts of which none loses a bit
 module _ (v k e : ℕ) (h : k < 32) (l : v < 2 ^ 64) where
   abbrev i : ℕ
   i = 62 - 2 * k
 
+  abbrev up : ℕ
+  up = v / 2 ^ (2 * k) / 4 * 4 + e % 4
+
+  abbrev made : ℕ
+  made = up * 2 ^ (2 * k) + v % 2 ^ (2 * k)
+
   s : (i + 2) + 2 * k ≡ 64
   s = omega arith
 
-  above-small : v / 2 ^ (2 * k) / 4 * 4 + e % 4 < 2 ^ (i + 2)
+  rest-lt : v % 2 ^ (2 * k) < 2 ^ (2 * k)
+  rest-lt = mod-lt v (pow-pos (2 * k))
+
+  above-small : up < 2 ^ (i + 2)
   above-small =
       let a : v / 2 ^ (2 * k) < 2 ^ (i + 2) = shr-lt (i + 2) (2 * k) (subst (λ (x : ℕ). v < 2 ^ x) (sym s) l) in
       let b : v / 2 ^ (2 * k) < 2 ^ i * 4 = subst (λ (x : ℕ). v / 2 ^ (2 * k) < x) (pow-add 2 i 2) a in
-      subst (λ (x : ℕ). v / 2 ^ (2 * k) / 4 * 4 + e % 4 < x) (sym (pow-add 2 i 2)) (omega arith)
+      subst (λ (x : ℕ). up < x) (sym (pow-add 2 i 2)) (omega arith)
 
-  pub code-with : ((v / 2 ^ (2 * k) / 4 * 4 + e % 4) * 2 ^ (2 * k)) % 18446744073709551616 + v % ((1 * 2 ^ (2 * k)) % 18446744073709551616) ≡ withIn v k e
-  unfolding withIn
+  made-small : made < 2 ^ 64
+  made-small = subst (λ (x : ℕ). made < x) (sym (pow-add 2 (i + 2) (2 * k)) ∙ ap (λ (x : ℕ). 2 ^ x) s) (digits-lt above-small rest-lt)
+
+  made-at : (j : ℕ) → j < 32 → exponentIn made j ≡ exponentIn (withIn v k e) j
+  made-at j g = go (ℕ-discrete j k)
+    where
+      go : Dec (j ≡ k) → exponentIn made j ≡ exponentIn (withIn v k e) j
+      go (yes q) = ap (exponentIn made) q ∙ ap (λ (x : ℕ). x % 4) (high up (2 * k) rest-lt) ∙ omega arith ∙ sym (ap (exponentIn (withIn v k e)) q ∙ in-same v k e h)
+      go (no ne) = at (decLt j k) ∙ sym (in-other v k e j g ne)
+        where
+          at : Dec (j < k) → exponentIn made j ≡ exponentIn v j
+          at (yes q) = below made v k j q (low up (2 * k) rest-lt)
+          at (no q) = beyond made v k j (omega arith) (ap (λ (z : ℕ). z / 4) (high up (2 * k) rest-lt) ∙ omega arith)
+
+  pub code-with : (up * 2 ^ (2 * k)) % 18446744073709551616 + v % ((1 * 2 ^ (2 * k)) % 18446744073709551616) ≡ withIn v k e
   code-with =
       ap₂ (λ (x y : ℕ). x + v % y) (shl-exact (i + 2) (2 * k) 64 above-small (omega arith)) (mask-is (2 * k) (omega arith))
-
-  pub code-fits : withIn v k e < 2 ^ 64
-  code-fits = with-small v k e 32 h l
+      ∙ same-word 32 {x = made} {y = withIn v k e} made-small (with-fits v k e) made-at
 
 -- ---- where that of row r lies
 
@@ -268,7 +274,7 @@ module _ (es : List ℕ) (r v : ℕ) where
   unfolding exponentAt withExponent
   exponent-same l h s =
       ap (λ (x : ℕ). exponentIn x (r % 32)) (getD-set-same es (r / 32) (withIn (getD es (r / 32) 0) (r % 32) v) 0 (omega arith))
-      ∙ in-same (getD es (r / 32) 0) (r % 32) v ∙ omega arith
+      ∙ in-same (getD es (r / 32) 0) (r % 32) v (omega arith) ∙ omega arith
 
   pub exponent-other : (k : ℕ) → (k ≡ r → ⊥) → exponentAt (withExponent es r v) k ≡ exponentAt es k
   unfolding exponentAt withExponent
@@ -282,7 +288,7 @@ module _ (es : List ℕ) (r v : ℕ) where
       go (yes e) (yes h) =
           ap (λ (j : ℕ). exponentIn (getD (set es (r / 32) u) j 0) (k % 32)) e
           ∙ ap (λ (x : ℕ). exponentIn x (k % 32)) (getD-set-same es (r / 32) u 0 h)
-          ∙ in-other (getD es (r / 32) 0) (r % 32) v (k % 32) (λ q. ne (omega arith))
+          ∙ in-other (getD es (r / 32) 0) (r % 32) v (k % 32) (omega arith) (λ q. ne (omega arith))
           ∙ ap (λ (j : ℕ). exponentIn (getD es j 0) (k % 32)) (sym e)
       go (yes e) (no h) = ap (λ (xs : List ℕ). exponentIn (getD xs (k / 32) 0) (k % 32)) (set-out es (r / 32) u (omega arith))
 
@@ -297,7 +303,7 @@ module _ (es : List ℕ) (r v : ℕ) where
       go (no n) d = subst (Fits w64) (sym (getD-set-other es (r / 32) j u 0 n)) (t j)
       go (yes e) (yes h) =
           subst (Fits w64) (sym (ap (λ (j : ℕ). getD (set es (r / 32) u) j 0) e ∙ getD-set-same es (r / 32) u 0 h))
-          (record { fits = with-small (getD es (r / 32) 0) (r % 32) v 32 (omega arith) (t (r / 32) .fits) })
+          (record { fits = with-fits (getD es (r / 32) 0) (r % 32) v })
       go (yes e) (no h) = subst (λ (xs : List ℕ). Fits w64 (getD xs j 0)) (sym (set-out es (r / 32) u (omega arith))) (t j)
 
   -- no other row changes and no spare bit

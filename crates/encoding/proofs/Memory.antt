@@ -16,14 +16,16 @@ use Rattle.pauli.proofs.RowLaws.{row-eq}
 use Rattle.encoding.specs.Limits.{maxQubits, maxRows, wordsOf}
 use Rattle.encoding.specs.Words.{unpack, qubits, pack, layRows}
 use Rattle.encoding.specs.Set.{row, Mem, count, exponentAt, layExponents, rowsIn, list, layIn, bare, Packed, Valid, Sound}
-use Rattle.encoding.specs.Refusals.{fault, some, isOn, badBits, setTests}
+use Rattle.encoding.specs.Refusals.{some, isOn, badBits, setLines}
+use Rattle.encoding.specs.Ranks.{byRank}
 use Rattle.encoding.proofs.WordLaws.{Fit, pack-x, pack-z}
 use Rattle.encoding.proofs.Padding.{Clean, pack-cut}
 use Rattle.encoding.proofs.Reading.{length-qubits, length-unpack, length-pack, qubits-pack, unpack-same}
 use Rattle.encoding.proofs.Parts.{row-long, fit-part, rows-ext, row-lay-list, length-lay-list}
 use Rattle.encoding.proofs.Scan.{any-none}
 use Rattle.encoding.proofs.Spare.{off-all}
-use Rattle.encoding.proofs.Faults.{no-test, set-lengths}
+use Rattle.encoding.proofs.Faults.{set-lengths}
+use Rattle.encoding.proofs.Ranks.{none-holds}
 use Rattle.encoding.proofs.Exponents.{laid-from, laid-again, exponent-laid, spare-none}
 
 -- ---- a row is packed when its words fit and its bits at n and above are zero
@@ -57,12 +59,12 @@ clean-of n w {xs} {zs} e h p =
 
 -- ---- what refusals 1 to 5 leave
 
-pub valid-of : (n : ℕ) (M : Mem) → Fit (M .xs) → Fit (M .zs) → Fit (M .es) → fault (setTests n M) ≡ 0 → Valid n (wordsOf n) M
+pub valid-of : (n : ℕ) (M : Mem) → Fit (M .xs) → Fit (M .zs) → Fit (M .es) → byRank (setLines n M) ≡ 0 → Valid n (wordsOf n) M
 unfolding badBits
 valid-of n M fx fz fe e =
     let m = count M in
     let w = wordsOf n in
-    let no = no-test 0 (setTests n M) e in
+    let no = none-holds (setLines n M) refl e in
     let l = set-lengths w M (no 2) in
     let clean : (r : ℕ) → r < m → Clean n (row w r (M .xs)) (row w r (M .zs)) =
     λ r h. off-all (drop n (unpack (row w r (M .xs)) (row w r (M .zs)))) (any-none (λ r. some isOn (drop n (unpack (row w r (M .xs)) (row w r (M .zs))))) m r (no 3) h) in
@@ -75,9 +77,9 @@ valid-of n M fx fz fe e =
     }
 
 -- the limits, from the same
-pub within-limits : (n : ℕ) (M : Mem) → fault (setTests n M) ≡ 0 → (n ≤ maxQubits) × (count M ≤ maxRows)
+pub within-limits : (n : ℕ) (M : Mem) → byRank (setLines n M) ≡ 0 → (n ≤ maxQubits) × (count M ≤ maxRows)
 within-limits n M e =
-    let no = no-test 0 (setTests n M) e in
+    let no = none-holds (setLines n M) refl e in
     (ltb-false maxQubits n (no 0), ltb-false maxRows (count M) (no 1))
 
 -- ---- the rows of a set

@@ -2,8 +2,9 @@
 -- Assumes nothing.
 use mathlib.Core.Path.{_≡_, refl, sym, ap, ap₂, _∙_, subst}
 use mathlib.Core.Bool.{Bool, false, cond, _||_}
-use mathlib.Core.List.{List}
-use Prim.Native.Nat.{ℕ, _+_, _*_, _≤_, _<_}
+use mathlib.Core.List.{List, _∷_}
+use Prim.Native.Nat.{ℕ, zero, suc, _+_, _*_, _≤_, _<_, suc-le-suc}
+use native.Mathlib.Nat.{zero-lt-suc}
 use native.Mathlib.Omega.{arith}
 use borrow.Author.Tests.{le-ltb, ltb-false, leb-false, eq-eqb}
 use lib.ListN.{length, getD, drop}
@@ -14,29 +15,32 @@ use Rattle.pauli.specs.Row.{Row, bitRow}
 use Rattle.pauli.proofs.RowLaws.{same-bits}
 use Rattle.encoding.specs.Limits.{maxQubits, maxRows, wordsOf}
 use Rattle.encoding.specs.Words.{unpack, qubits, pack, layRows}
-use Rattle.encoding.specs.Set.{row, Mem, memOf, count, phaseUnits, exponentAt, layExponents, rowsIn, rowsOf, list, layIn, Valid, Sound}
-use Rattle.encoding.specs.Refusals.{faultFrom, fault, least, some, someBelow, isOn, badBits, setTests, outTests, numberTests, tooLarge, readTests, rowsTests}
+use Rattle.encoding.specs.Set.{row, Mem, memOf, count, phaseUnits, exponentAt, layExponents, rowsIn, rowsOf, list, layIn, lay, Valid, Sound}
+use Rattle.encoding.specs.Refusals.{least, some, someBelow, isOn, badBits, setLines, outLines, numberLines, tooLarge, readLines, rowsLines, Readable}
+use Rattle.encoding.specs.Ranks.{byRank, placeIn}
+use Rattle.pauli.specs.Lists.{every}
 use Rattle.encoding.proofs.Padding.{of-only}
 use Rattle.encoding.proofs.Parts.{row-long, rows-ext, row-lay-list, length-lay-list}
 use Rattle.encoding.proofs.Reading.{length-qubits}
 use Rattle.encoding.proofs.Scan.{none-of, any-never}
-use Rattle.encoding.proofs.Faults.{no-test, set-lengths, joined-fault, least-none, not-large, number-is}
-use Rattle.encoding.proofs.Exponents.{laid-long, exponents-same, exponent-small, spare-passes}
+use Rattle.encoding.proofs.Faults.{set-lengths, least-none, not-large}
+use Rattle.encoding.proofs.Ranks.{none-holds, Fitting, joined-fault, both-parts}
+use Rattle.encoding.proofs.Exponents.{laid-long, exponents-same, exponent-small, spare-passes, lay-alike}
 use Rattle.encoding.proofs.Memory.{mem-eq, Proper, clean, row-count, within-limits}
 
 -- ---- the tests of a set that is read
 
 -- what the tests and their number tell
-pub sound-of : (n : ℕ) (M : Mem) {f : ℕ} → f ≡ fault (setTests n M) → (f ≡ 0 → Valid n (wordsOf n) M) → f ≡ 0 → Sound n M
+pub sound-of : (n : ℕ) (M : Mem) {f : ℕ} → f ≡ byRank (setLines n M) → (f ≡ 0 → Valid n (wordsOf n) M) → f ≡ 0 → Sound n M
 sound-of n M e v z = let l = within-limits n M (sym e ∙ z) in record { valid = v z; few-qubits = l .0; few-rows = l .1 }
 
 -- what a set that is passed holds, whatever its words
-pub read-proper : (n : ℕ) (M : Mem) → fault (setTests n M) ≡ 0 → Proper n (count M) (rowsOf n M)
+pub read-proper : (n : ℕ) (M : Mem) → byRank (setLines n M) ≡ 0 → Proper n (count M) (rowsOf n M)
 unfolding rowsIn
 read-proper n M e =
     let m = count M in
     let w = wordsOf n in
-    let no = no-test 0 (setTests n M) e in
+    let no = none-holds (setLines n M) refl e in
     let l = set-lengths w M (no 2) in
     record {
       long = λ r h.
@@ -46,8 +50,8 @@ read-proper n M e =
     }
 
 -- a row set within the limits is passed, and so it is with a number that is not too large
-pub set-passes : (n : ℕ) (M : Mem) → Sound n M → fault (setTests n M) ≡ 0
-unfolding faultFrom badBits
+pub set-passes : (n : ℕ) (M : Mem) → Sound n M → byRank (setLines n M) ≡ 0
+unfolding byRank badBits
 set-passes n M s =
     let m = count M in
     let w = wordsOf n in
@@ -57,17 +61,42 @@ set-passes n M s =
     let b5 = spare-passes m (v .exponents) in
     simp (le-ltb maxQubits n (s .few-qubits), le-ltb maxRows m (s .few-rows), eq-eqb (length (M .xs)) (m * w) (v .x-long), eq-eqb (length (M .zs)) (m * w) (v .z-long), eq-eqb (length (M .es)) (phaseUnits m) (laid-long m (v .exponents)), b4, b5)
 
-pub read-passes : (n : ℕ) (M : Mem) → Sound n M → (large : Bool) → large ≡ false → fault (readTests n M large) ≡ 0
+pub set-number : (n : ℕ) (M : Mem) (large : Bool) → Fitting (setLines n M) (numberLines large)
+unfolding placeIn least every
+set-number n M large = refl
+
+-- the number of one line
+pub number-is : (large : Bool) → cond large 6 0 ≡ byRank (numberLines large)
+unfolding byRank
+number-is large = refl
+
+-- where none fits, none fits the set, and the number is not too large
+pub read-none : (n : ℕ) (M : Mem) (large : Bool) → byRank (readLines n M large) ≡ 0 → (byRank (setLines n M) ≡ 0) × (large ≡ false)
+read-none n M large e =
+    let p = least-none (byRank (setLines n M)) (byRank (numberLines large)) (joined-fault (setLines n M) (numberLines large) (set-number n M large) ∙ e) in
+    (p .0, not-large 5 large (number-is large ∙ p .1))
+
+-- the number, and what it tells
+module _ (n : ℕ) (M : Mem) (large : Bool) {f a b : ℕ} (ea : a ≡ byRank (setLines n M)) (eb : b ≡ cond large 6 0) (ef : f ≡ least a b) where
+  pub read-told : (a ≡ 0 → Valid n (wordsOf n) M) → (f ≡ byRank (readLines n M large)) × (f ≡ 0 → Readable n M large)
+  read-told v = (
+    both-parts (setLines n M) (numberLines large) (set-number n M large) ea (eb ∙ number-is large) ef,
+    λ z.
+        let p = least-none a b (sym ef ∙ z) in
+        record { ready = sound-of n M ea v (p .0); small = not-large 5 large (sym eb ∙ p .1) },
+  )
+
+pub read-passes : (n : ℕ) (M : Mem) → Sound n M → (large : Bool) → large ≡ false → byRank (readLines n M large) ≡ 0
 unfolding least
 read-passes n M s large e =
-    sym (joined-fault (setTests n M) (numberTests large)) ∙ ap₂ least (set-passes n M s) (sym (number-is large) ∙ ap (λ (b : Bool). cond b 6 0) e)
+    sym (joined-fault (setLines n M) (numberLines large) (set-number n M large)) ∙ ap₂ least (set-passes n M s) (sym (number-is large) ∙ ap (λ (b : Bool). cond b 6 0) e)
 
 -- two rows of a set, where none fits
-pub rows-in : (n : ℕ) (M : Mem) (a b : ℕ) → fault (rowsTests n M a b) ≡ 0 → (fault (setTests n M) ≡ 0) × (a < count M) × (b < count M)
+pub rows-in : (n : ℕ) (M : Mem) (a b : ℕ) → byRank (rowsLines n M a b) ≡ 0 → (byRank (setLines n M) ≡ 0) × (a < count M) × (b < count M)
 rows-in n M a b e =
     let large = tooLarge (count M) a || tooLarge (count M) b in
-    let p = least-none (fault (setTests n M)) (fault (numberTests large)) (joined-fault (setTests n M) (numberTests large) ∙ e) in
-    let q = none-of (tooLarge (count M) a) (tooLarge (count M) b) (not-large 5 large (number-is large ∙ p .1)) in
+    let p = read-none n M large e in
+    let q = none-of (tooLarge (count M) a) (tooLarge (count M) b) (p .1) in
     (p .0, leb-false (count M) a (q .0), leb-false (count M) b (q .1))
 
 -- what a set that is written only has, where it is passed
@@ -78,9 +107,9 @@ pub record Shaped (n : ℕ) (O : Mem) : Type 0 where
   pub z-long : length (O .zs) ≡ count O * wordsOf n
   pub e-long : length (O .es) ≡ phaseUnits (count O)
 
-pub shape-of : (n : ℕ) (O : Mem) → fault (outTests n O) ≡ 0 → Shaped n O
+pub shape-of : (n : ℕ) (O : Mem) → byRank (outLines n O) ≡ 0 → Shaped n O
 shape-of n O e =
-    let no = no-test 0 (outTests n O) e in
+    let no = none-holds (outLines n O) refl e in
     let l = set-lengths (wordsOf n) O (no 2) in
     record {
       few-qubits = ltb-false maxQubits n (no 0);
@@ -133,3 +162,17 @@ laid-by {w} {m} {σ} {xs} {zs} h e =
     (rows-ext m w xs (layRows hasX w (list m ps)) (h .x-long) (length-lay-list hasX w m ps) (λ r l. h .x-row r l ∙ sym (row-lay-list hasX w m ps r l)))
     (rows-ext m w zs (layRows hasZ w (list m ps)) (h .z-long) (length-lay-list hasZ w m ps) (λ r l. h .z-row r l ∙ sym (row-lay-list hasZ w m ps r l)))
     e
+
+-- ---- lists and what is laid, by their elements below m
+
+pub list-same : {A : Type 0} (m : ℕ) (f g : ℕ → A) → ((k : ℕ) → k < m → f k ≡ g k) → list m f ≡ list m g
+unfolding list
+list-same zero f g h = refl
+list-same {A} (suc m) f g h = ap₂ (λ (a : A) (l : List A). a ∷ l) (h 0 (zero-lt-suc m)) (list-same m (λ k. f (suc k)) (λ k. g (suc k)) (λ k l. h (suc k) (suc-le-suc l)))
+
+pub lay-same : (n m : ℕ) (σ τ : ℕ → Row) → ((k : ℕ) → k < m → σ k ≡ τ k) → lay n m σ ≡ lay n m τ
+unfolding layIn
+lay-same n m σ τ h =
+    let ps : list m (λ k. σ k .ps) ≡ list m (λ k. τ k .ps) = list-same m (λ k. σ k .ps) (λ k. τ k .ps) (λ k l. ap (λ (x : Row). x .ps) (h k l)) in
+    let es = lay-alike m (λ k. σ k .p) (λ k. τ k .p) (λ k l. ap (λ (x : Row). x .p) (h k l)) in
+    λ i. record { m = m; xs = layRows hasX (wordsOf n) (ps i); zs = layRows hasZ (wordsOf n) (ps i); es = es i }

@@ -14,11 +14,12 @@ use Rattle.pauli.specs.declared.PauliMatrix.the-variants.{I}
 use Rattle.encoding.specs.Limits.{wordsOf}
 use Rattle.encoding.specs.Words.{odd, bitAt, word, bits, unpack, unbits}
 use Rattle.encoding.specs.Set.{stateOf, layState}
-use Rattle.encoding.specs.Refusals.{fault, some, isOn, stateTests}
+use Rattle.encoding.specs.Refusals.{some, isOn, stateLines}
+use Rattle.encoding.specs.Ranks.{byRank}
 use Rattle.encoding.proofs.Padding.{Only, only-of}
 use Rattle.encoding.proofs.Reading.{length-unpack, length-pack}
 use Rattle.encoding.proofs.BitLaws.{unpack-at, bit-pack}
-use Rattle.encoding.proofs.Faults.{no-test}
+use Rattle.encoding.proofs.Ranks.{none-holds}
 
 some-map : {A : Type 0} (f : A → Bool) (n : ℕ) (l : List A) → some (λ (b : Bool). b) (drop n (map f l)) ≡ some f (drop n l)
 unfolding some
@@ -46,10 +47,10 @@ state-spare n st = ap (λ (l : List Bool). some (λ (b : Bool). b) (drop n l)) (
 
 -- ---- what the tests leave
 
-pub state-long : (n : ℕ) (st : List ℕ) → fault (stateTests n st) ≡ 0 → (length st ≡ wordsOf n) × Only false (drop n (unbits st))
+pub state-long : (n : ℕ) (st : List ℕ) → byRank (stateLines n st) ≡ 0 → (length st ≡ wordsOf n) × Only false (drop n (unbits st))
 state-long n st e =
-    let no = no-test 0 (stateTests n st) e in
-    (eqb-true (length st) (wordsOf n) (not-false _ (no 2)), only-of (λ (b : Bool). b) false (λ b g. g) (drop n (unbits st)) (no 3))
+    let no = none-holds (stateLines n st) refl e in
+    (eqb-true (length st) (wordsOf n) (not-false _ (no 1)), only-of (λ (b : Bool). b) false (λ b g. g) (drop n (unbits st)) (no 2))
 
 -- ---- laid, and read again
 

@@ -2,5 +2,5 @@ pub mod Limits
 pub mod Words
 pub mod Set
 pub mod Lent
-pub mod Refusals
 pub mod Ranks
+pub mod Refusals

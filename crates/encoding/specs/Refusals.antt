@@ -1,5 +1,6 @@
--- RULES 9, "Refusals": the lines of the table as tests, in the table's order, and the first number that fits; 0 stands for none. The tests of
--- row sets, states and numbers stand here; those of orders, lists, logs and terms beside the calls that take them. Assumes nothing.
+-- RULES 9, "Refusals": the lines of the table for row sets, states and numbers; those of orders, lists, logs and terms stand beside the calls that take
+-- them. And what a refusal comes to. Assumes nothing.
+use mathlib.Core.Path.{_≡_}
 use mathlib.Core.Bool.{Bool, false, cond, not, _||_}
 use mathlib.Core.List.{List, [], _∷_}
 use Prim.Native.Nat.{ℕ, zero, suc, _*_, _/_, _%_, _^_}
@@ -9,25 +10,10 @@ unfoldable pub use Rattle.pauli.specs.Lists.{some, someBelow}
 use Rattle.pauli.specs.Pauli.{Pauli, hasX, hasZ}
 use Rattle.encoding.specs.Limits.{maxQubits, maxRows, wordsOf}
 use Rattle.encoding.specs.Words.{unpack, unbits}
-use Rattle.encoding.specs.Set.{row, Mem, count, phaseUnits}
+use Rattle.encoding.specs.Set.{row, Mem, count, phaseUnits, Sound}
+use Rattle.encoding.specs.Ranks.{TableLine, line, joined}
 use Rattle.encoding.specs.declared.Answer.{Answer}
 use Rattle.encoding.specs.declared.Answer.the-variants.{Done, Refused}
-
--- ---- the table
-
--- the tests of a call are the table's lines in their order: the number of the first that holds, the first of them being k
-unfoldable pub faultFrom : ℕ → List Bool → ℕ
-faultFrom k [] = 0
-faultFrom k (t ∷ ts) = cond t k (faultFrom (suc k) ts)
-
-abbrev pub fault : List Bool → ℕ
-fault ts = faultFrom 1 ts
-
--- what either of two parts of a call asks
-unfoldable pub joined : List Bool → List Bool → List Bool
-joined [] us = us
-joined (t ∷ ts) [] = t ∷ ts
-joined (t ∷ ts) (u ∷ us) = (t || u) ∷ joined ts us
 
 -- the smaller of two numbers of the table
 unfoldable pub least : ℕ → ℕ → ℕ
@@ -65,47 +51,47 @@ unfoldable pub badPhases : ℕ → List ℕ → Bool
 badPhases m es = not (eqb (getD es (m / 32) 0 / 2 ^ (2 * (m % 32))) 0)
 
 -- a set that is read: 1 to 5
-abbrev pub setTests : ℕ → Mem → List Bool
-setTests n M =
-    manyQubits n
-    ∷ manyRows (count M)
-    ∷ wrongLengths (wordsOf n) M
-    ∷ badBits n (count M) (wordsOf n) (M .xs) (M .zs)
-    ∷ badPhases (count M) (M .es)
+abbrev pub setLines : ℕ → Mem → List TableLine
+setLines n M =
+    line 1 (manyQubits n)
+    ∷ line 2 (manyRows (count M))
+    ∷ line 3 (wrongLengths (wordsOf n) M)
+    ∷ line 4 (badBits n (count M) (wordsOf n) (M .xs) (M .zs))
+    ∷ line 5 (badPhases (count M) (M .es))
     ∷ []
 
 -- a set that is written only: its old content is not tested
-abbrev pub outTests : ℕ → Mem → List Bool
-outTests n M = manyQubits n ∷ manyRows (count M) ∷ wrongLengths (wordsOf n) M ∷ []
+abbrev pub outLines : ℕ → Mem → List TableLine
+outLines n M = line 1 (manyQubits n) ∷ line 2 (manyRows (count M)) ∷ line 3 (wrongLengths (wordsOf n) M) ∷ []
 
 -- ---- states and numbers
 
 -- a lent basis state: w words (3), no bit set at n or above (4)
-abbrev pub stateTests : ℕ → List ℕ → List Bool
-stateTests n st =
-    manyQubits n
-    ∷ false
-    ∷ not (eqb (length st) (wordsOf n))
-    ∷ some (λ (b : Bool). b) (drop n (unbits st))
-    ∷ []
+abbrev pub stateLines : ℕ → List ℕ → List TableLine
+stateLines n st = line 1 (manyQubits n) ∷ line 3 (not (eqb (length st) (wordsOf n))) ∷ line 4 (some (λ (b : Bool). b) (drop n (unbits st))) ∷ []
 
 -- 6: a number too large; its limit is the first number that is
-abbrev pub numberTests : Bool → List Bool
-numberTests large = false ∷ false ∷ false ∷ false ∷ false ∷ large ∷ []
-
 abbrev pub tooLarge : ℕ → ℕ → Bool
 tooLarge limit k = leb limit k
 
+abbrev pub numberLines : Bool → List TableLine
+numberLines large = line 6 large ∷ []
+
 -- a set that is read and a number: 1 to 6
-abbrev pub readTests : ℕ → Mem → Bool → List Bool
-readTests n M large = joined (setTests n M) (numberTests large)
+abbrev pub readLines : ℕ → Mem → Bool → List TableLine
+readLines n M large = joined (setLines n M) (numberLines large)
 
 -- the numbers of one and of two of its rows
-abbrev pub rowTests : ℕ → Mem → ℕ → List Bool
-rowTests n M r = readTests n M (tooLarge (count M) r)
+abbrev pub rowLines : ℕ → Mem → ℕ → List TableLine
+rowLines n M r = readLines n M (tooLarge (count M) r)
 
-abbrev pub rowsTests : ℕ → Mem → ℕ → ℕ → List Bool
-rowsTests n M a b = readTests n M (tooLarge (count M) a || tooLarge (count M) b)
+abbrev pub rowsLines : ℕ → Mem → ℕ → ℕ → List TableLine
+rowsLines n M a b = readLines n M (tooLarge (count M) a || tooLarge (count M) b)
+
+-- what they leave: a row set within the limits, and no number that is too large
+pub record Readable (n : ℕ) (M : Mem) (large : Bool) : Type 0 where
+  pub ready : Sound n M
+  pub small : large ≡ false
 
 -- ---- what a refusal comes to
 

@@ -4,7 +4,7 @@ use mathlib.Core.Path.{_≡_}
 use mathlib.Core.Bool.{Bool, cond, _&&_}
 use mathlib.Core.List.{List, [], _∷_}
 use Prim.Native.Nat.{ℕ, zero, suc, _+_, _-_, _*_, _/_, _%_, _^_, _≤_, _<_}
-use lib.Dec.{ltb}
+use lib.Dec.{eqb, ltb}
 use lib.ListN.{length, getD, take, drop, set}
 use Rattle.pauli.specs.Pauli.{Pauli, hasX, hasZ}
 use Rattle.pauli.specs.Row.{Row}
@@ -48,14 +48,14 @@ phaseUnits m = (m + 31) / 32
 abbrev pub exponentIn : ℕ → ℕ → ℕ
 exponentIn v k = v / 2 ^ (2 * k) % 4
 
--- the word with number k made e: what lies above it, e mod 4, what lies below it
-unfoldable pub withIn : ℕ → ℕ → ℕ → ℕ
-withIn v k e = (v / 2 ^ (2 * k) / 4 * 4 + e % 4) * 2 ^ (2 * k) + v % 2 ^ (2 * k)
-
 -- a word of d of them
 unfoldable pub wordIn : ℕ → (ℕ → ℕ) → ℕ
 wordIn zero f = 0
 wordIn (suc d) f = wordIn d (λ k. f (suc k)) * 4 + f 0 % 4
+
+-- a word with number k made e, the others as they were
+unfoldable pub withIn : ℕ → ℕ → ℕ → ℕ
+withIn v k e = wordIn 32 (λ j. cond (eqb j k) e (exponentIn v j))
 
 -- the exponent of row r
 unfoldable pub exponentAt : List ℕ → ℕ → ℕ

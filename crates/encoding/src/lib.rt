@@ -11,7 +11,8 @@ ghost use Rattle.encoding.specs.Words.{odd, bitAt, withBit, word, unpack
 ghost use Rattle.encoding.specs.Set.{phaseUnits, exponentAt, withIn, withExponent, Valid, QubitSet};
 ghost use Rattle.encoding.specs.Lent.{before};
 ghost use Rattle.pauli.specs.declared.PauliMatrix.the-variants.{I};
-ghost use Rattle.encoding.specs.Refusals.{fault, least, some, isOn, badLengths, badBits, badPhases, setTests, outTests, stateTests};
+ghost use Rattle.encoding.specs.Refusals.{least, some, isOn, badLengths, badBits, badPhases, setLines, readLines, Readable, outLines, stateLines};
+ghost use Rattle.encoding.specs.Ranks.{byRank};
 use pauli::ComplexSign;
 use pauli::PauliMatrix;
 use pauli::QubitNumber;
@@ -159,7 +160,7 @@ pub fn smaller(a: u8, b: u8) -> u8
 
 // The first number of the table that fits a set that is read, or 0; then it is a row set.
 pub fn set_fault(n: usize, m: usize, x: &[u64], z: &[u64], p: &[u64]) -> u8
-    ensures { λ r. ⌜ r ≡ fault (setTests n (before m x z p)) ⌝ }
+    ensures { λ r. ⌜ r ≡ byRank (setLines n (before m x z p)) ⌝ }
     ensures valid { λ r. ⌜ (r ≡ 0 → Valid n (wordsOf n) (before m x z p)) ⌝ }
 {
     if MAX_QUBITS < n {
@@ -175,9 +176,17 @@ pub fn set_fault(n: usize, m: usize, x: &[u64], z: &[u64], p: &[u64]) -> u8
     pick(bad_bits(n, w, m, x, z), 4, pick(bad_phases(m, p), 5, 0))
 }
 
-// The same of a set that is written only.
+// The same of a set that is read and of its call's numbers; large says that one of them is too large.
+pub fn row_fault(n: usize, m: usize, x: &[u64], z: &[u64], p: &[u64], large: bool) -> u8
+    ensures { λ r. ⌜ r ≡ byRank (readLines n (before m x z p) large) ⌝ }
+    ensures readable { λ r. ⌜ (r ≡ 0 → Readable n (before m x z p) large) ⌝ }
+{
+    smaller(set_fault(n, m, x, z, p), pick(large, 6, 0))
+}
+
+// The first number of the table that fits a set that is written only, or 0.
 pub fn out_fault(n: usize, m: usize, x: &[u64], z: &[u64], p: &[u64]) -> u8
-    ensures { λ r. ⌜ r ≡ fault (outTests n (before m x z p)) ⌝ }
+    ensures { λ r. ⌜ r ≡ byRank (outLines n (before m x z p)) ⌝ }
 {
     if MAX_QUBITS < n {
         return 1;
@@ -190,7 +199,7 @@ pub fn out_fault(n: usize, m: usize, x: &[u64], z: &[u64], p: &[u64]) -> u8
 
 // The first number of the table that fits a lent basis state, or 0.
 pub fn state_fault(n: usize, s: &[u64]) -> u8
-    ensures { λ r. ⌜ r ≡ fault (stateTests n (now (s .entry))) ⌝ }
+    ensures { λ r. ⌜ r ≡ byRank (stateLines n (now (s .entry))) ⌝ }
 {
     if MAX_QUBITS < n {
         return 1;

@@ -13,10 +13,12 @@ use lib.Ieee.Scale.{finite}
 use lib.IntN.{ℤ, pos, natAbs}
 use lib.ListN.{length, getD}
 use lib.Signed.{natAbs-le}
-use Rattle.encoding.specs.Refusals.{fault, faultFrom, some}
-use Rattle.encoding.proofs.Faults.{orElse, fault-append}
+use Rattle.encoding.specs.Refusals.{some}
+use Rattle.encoding.specs.Ranks.{TableLine, line, byRank}
+use Rattle.encoding.proofs.Faults.{orElse}
+use Rattle.encoding.proofs.Ranks.{rank-append}
 use Rattle.encoding.proofs.Scan.{some-never}
-use Rattle.mat_elem.specs.Terms.{maxTerms, termTests, inBlock, hasBlock}
+use Rattle.mat_elem.specs.Terms.{maxTerms, termLines, inBlock, hasBlock}
 use Rattle.mat_elem.specs.Sums.{sumOver, stepIf}
 use Rattle.mat_elem.proofs.Faults.{sound}
 use Rattle.mat_elem.specs.float.Sums as F
@@ -60,8 +62,8 @@ module _ (n : ℕ) (xs zs : List ℕ) (fr fi : List Float) (re im : List ℤ) (b
   abbrev t : ℕ
   t = bitXor bra ket
 
-  abbrev tests : List Bool
-  tests = termTests n xs zs (length fr) (length fi) bra ket
+  abbrev tests : List TableLine
+  tests = termLines n xs zs (length fr) (length fi) bra ket
 
   -- the answers of the two calls, by the number of the lines 1 to 10 and whether there is a block
   abbrev floatAnswer : ℕ → Bool → FloatElement
@@ -73,15 +75,15 @@ module _ (n : ℕ) (xs zs : List ℕ) (fr fi : List Float) (re im : List ℤ) (b
   plain : F.wild fr fi ≡ false
   plain = ap₂ _||_ (no-wild fr re pr) (no-wild fi im pi)
 
-  whole-block : fault tests ≡ 0 → WholeBlock exactMax n xs zs fr fi re im bra ket
-  unfolding faultFrom
+  whole-block : byRank tests ≡ 0 → WholeBlock exactMax n xs zs fr fi re im bra ket
+  unfolding byRank
   whole-block e =
       let s = sound n xs zs (length fr) (length fi) bra ket e .shape in
       let rl : (k : ℕ) → k < length xs → k < length fr = λ k h. omega (arith, s .re-long) in
       let il : (k : ℕ) → k < length xs → k < length fi = λ k h. omega (arith, s .im-long) in
       let l = small-to xs re im t (length xs) (λ k h. part-small fr re pr k (rl k h)) (λ k h. part-small fi im pi k (il k h)) in
       record {
-        taken = fault-append 0 tests (F.wild fr fi ∷ []) ∙ ap₂ (λ (k : ℕ) (b : Bool). orElse k (faultFrom 11 (b ∷ []))) e plain;
+        taken = rank-append tests (line 11 (F.wild fr fi) ∷ []) refl ∙ ap₂ (λ (k : ℕ) (b : Bool). orElse k (byRank (line 11 b ∷ []))) e plain;
         re-whole = λ k h _. pr .reads k (rl k h);
         im-whole = λ k h _. pi .reads k (il k h);
         small = le-trans l (le-trans (most (length xs) (s .short)) (lit≤ tt));
@@ -93,9 +95,9 @@ module _ (n : ℕ) (xs zs : List ℕ) (fr fi : List Float) (re im : List ℤ) (b
   -- request 12 for i32 parts
   pub editions : (r : FloatElement) (s : WholeElement) → FloatMatElem n xs zs fr fi bra ket r → W.MatElem n xs zs re im bra ket s → Same r s
   unfolding F.elementOf W.elementOf
-  editions r s c d = rw (c .answer, d .answer, pr .long, pi .long) (go (fault tests) refl)
+  editions r s c d = rw (c .answer, d .answer, pr .long, pi .long) (go (byRank tests) refl)
     where
-      go : (j : ℕ) → fault tests ≡ j → Same (floatAnswer (fault (F.floatTests n xs zs fr fi bra ket)) (hasBlock xs t)) (wholeAnswer (fault tests) (hasBlock xs t))
+      go : (j : ℕ) → byRank tests ≡ j → Same (floatAnswer (byRank (F.floatLines n xs zs fr fi bra ket)) (hasBlock xs t)) (wholeAnswer (byRank tests) (hasBlock xs t))
       go (suc j) e = rw (number-is n xs zs fr fi bra ket (F.overflows xs zs fr fi t ket), e) (refused (suc j))
       go zero e = rw (not-refused n xs zs fr fi re im bra ket (whole-block e), e) (by-block (hasBlock xs t))
         where

@@ -12,9 +12,11 @@ use lib.Ieee.{Float, nan}
 use lib.Ieee.Scale.{finite}
 use lib.IntN.{ℤ, pos, natAbs}
 use lib.ListN.{length, getD}
-use Rattle.encoding.specs.Refusals.{fault, faultFrom, someBelow}
-use Rattle.encoding.proofs.Faults.{orElse, fault-append}
-use Rattle.mat_elem.specs.Terms.{termTests, inBlock, hasBlock}
+use Rattle.encoding.specs.Refusals.{someBelow}
+use Rattle.encoding.specs.Ranks.{line, byRank}
+use Rattle.encoding.proofs.Faults.{orElse}
+use Rattle.encoding.proofs.Ranks.{rank-append}
+use Rattle.mat_elem.specs.Terms.{termLines, inBlock, hasBlock}
 use Rattle.mat_elem.specs.Sums.{exponentOf, sumOver, stepIf}
 use Rattle.mat_elem.proofs.SumLaws.{sum-empty}
 use Rattle.mat_elem.specs.float.Sums as F
@@ -137,11 +139,11 @@ module _ (n : ℕ) (xs zs : List ℕ) (fr fi : List Float) (re im : List ℤ) (b
     last = after xs zs fr fi re im t ket (w .re-whole) (w .im-whole) (length xs) (le-refl (length xs)) (w .small)
 
     -- nothing is refused, 12 included
-    pub not-refused : fault (F.floatTests n xs zs fr fi bra ket) ≡ 0
-    unfolding faultFrom F.overflows
+    pub not-refused : byRank (F.floatLines n xs zs fr fi bra ket) ≡ 0
+    unfolding byRank F.overflows
     not-refused =
-        fault-append 0 (termTests n xs zs (length fr) (length fi) bra ket ++ F.wild fr fi ∷ []) (F.overflows xs zs fr fi t ket ∷ [])
-        ∙ ap₂ (λ (k : ℕ) (b : Bool). orElse k (faultFrom 12 (b ∷ []))) (w .taken) (last .fine)
+        rank-append (termLines n xs zs (length fr) (length fi) bra ket ++ line 11 (F.wild fr fi) ∷ []) (line 12 (F.overflows xs zs fr fi t ket) ∷ []) refl
+        ∙ ap₂ (λ (k : ℕ) (b : Bool). orElse k (byRank (line 12 b ∷ []))) (w .taken) (last .fine)
 
     pub sum-exactly : Exactly floatSum wholeSum (sizeTo xs re im t (length xs))
     sum-exactly = last .exactly

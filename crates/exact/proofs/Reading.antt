@@ -3,7 +3,7 @@
 use mathlib.Core.Path.{_≡_, refl, sym, ap, ap₂, _∙_, subst}
 use mathlib.Core.Bool.{Bool, true, false, not, _&&_, cond}
 use Prim.Native.Nat.{ℕ, zero, suc, _+_, _-_, _*_, _^_, _≤_, _<_}
-use native.Mathlib.Nat.{le-trans, mul-one, mul-assoc, mul-comm, add-mul, mul-sub, mul-pos, zero-lt-suc, le-of-lt, lt-of-mul-lt-mul-right, le-of-mul-le-mul-right, eq-of-mul-eq-mul-right}
+use native.Mathlib.Nat.{le-trans, mul-one, mul-assoc, mul-comm, add-mul, mul-pos, zero-lt-suc, le-of-lt, lt-of-mul-lt-mul-right, le-of-mul-le-mul-right, eq-of-mul-eq-mul-right}
 use native.Mathlib.Omega.{arith}
 use borrow.Author.Tests.{lt-ltb, le-ltb}
 use lib.Dec.{T, ltb, ltb→lt, nltb→le, lit≤}
@@ -14,6 +14,7 @@ use lib.Ieee.Back.{round-whole}
 use lib.Ieee.Fits.{down-pos}
 use lib.Ieee.Scale.{finite, round-same}
 use Rattle.mat_elem.proofs.float.Zero.{add-is}
+use Rattle.mat_elem.proofs.float.Never.{sub-mul}
 use Rattle.exact.specs.Whole.{signed, Reads, whole, exactMax}
 
 pub reads-finite : (x : Float) (z : ℤ) → Reads x z → T (finite x)
@@ -57,9 +58,6 @@ sub-above : (a b : ℕ) → b ≤ a → subℕ a b ≡ pos (a - b)
 sub-above a b h = rw (le-ltb a b h)
 
 -- ---- the sum of a * c / c and b * c / c
-sub-mul : (m n k : ℕ) → (m - n) * k ≡ m * k - n * k
-sub-mul m n k = mul-comm (m - n) k ∙ mul-sub k m n ∙ ap (λ (z : ℕ). z - k * n) (mul-comm k m) ∙ ap (λ (z : ℕ). m * k - z) (mul-comm k n)
-
 cut : (s : Bool) (n c : ℕ) → 0 < c → round binary64 s (n * c) c ≡ round binary64 s n 1
 cut s n c C = round-same binary64 s (n * c) c n 1 C (zero-lt-suc 0) (mul-one (n * c))
 

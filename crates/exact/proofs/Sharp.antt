@@ -9,7 +9,8 @@ use lib.Dec.{lit≤}
 use lib.Ieee.{Float, nan, fin, add, neg, fits}
 use lib.IntN.{ℤ, pos, natAbs}
 use lib.ListN.{getD}
-use Rattle.encoding.specs.Refusals.{faultFrom, some, someBelow}
+use Rattle.encoding.specs.Refusals.{some, someBelow}
+use Rattle.encoding.specs.Ranks.{byRank}
 use Rattle.encoding.specs.Words.{word, bits}
 use Rattle.mat_elem.specs.Terms.{fallsAfter}
 use Rattle.mat_elem.specs.Sums.{sumOver}
@@ -43,12 +44,12 @@ noWholes = pos 0 ∷ pos 0 ∷ []
 
 -- at the bound: 2 to the 53 less 1, and 1
 pub at-bound : elementOf 1 zeros zeros (fin false 9007199254740991 (pos 0) ∷ two 0 ∷ []) noFloats 0 0 ≡ Sum (two 53) plusZero
-unfolding elementOf overflows sumOver faultFrom some someBelow fallsAfter word bits add neg
+unfolding elementOf overflows sumOver byRank some someBelow fallsAfter word bits add neg
 at-bound = refl
 
 -- past it: the float call gives 2 to the 53, the whole-number sum is one more
 pub float-sum : elementOf 1 zeros zeros reals noFloats 0 0 ≡ Sum (two 53) plusZero
-unfolding elementOf overflows sumOver faultFrom some someBelow fallsAfter word bits add neg
+unfolding elementOf overflows sumOver byRank some someBelow fallsAfter word bits add neg
 float-sum = refl
 
 pub whole-sum : blockSum zeros zeros wholes noWholes 0 0 ≡ complex (pos (suc (2 ^ 53))) (pos 0)
@@ -63,7 +64,7 @@ power e = whole {x = two e} false (2 ^ e) (refl, omega arith)
 
 -- ... though only the bound is passed, by one
 past-bound : WholeBlock (suc exactMax) 1 zeros zeros reals noFloats wholes noWholes 0 0
-unfolding faultFrom some fallsAfter bits sizeTo sumOver
+unfolding byRank some fallsAfter bits sizeTo sumOver
 past-bound = record { taken = refl; re-whole = λ k h _. re-at k h; im-whole = λ k h _. im-at k h; small = lit≤ tt }
   where
     re-at : (k : ℕ) → k < 2 → Reads (getD reals k nan) (getD wholes k (pos 0))
@@ -108,9 +109,9 @@ abbrev none : List Float
 none = plusZero ∷ plusZero ∷ plusZero ∷ []
 
 pub in-list-order : elementOf 1 three three (two 0 ∷ large false ∷ large true ∷ []) none 0 0 ≡ Sum plusZero plusZero
-unfolding elementOf overflows sumOver faultFrom some someBelow fallsAfter word bits add neg
+unfolding elementOf overflows sumOver byRank some someBelow fallsAfter word bits add neg
 in-list-order = refl
 
 pub reversed : elementOf 1 three three (large true ∷ large false ∷ two 0 ∷ []) none 0 0 ≡ Sum (two 0) plusZero
-unfolding elementOf overflows sumOver faultFrom some someBelow fallsAfter word bits add neg
+unfolding elementOf overflows sumOver byRank some someBelow fallsAfter word bits add neg
 reversed = refl

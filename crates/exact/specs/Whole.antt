@@ -8,8 +8,8 @@ use lib.Ieee.{Float, nan}
 use lib.Ieee.Exact.{HasValue}
 use lib.IntN.{ℤ, pos, negℤ, natAbs}
 use lib.ListN.{length, getD}
-use Rattle.encoding.specs.Refusals.{fault}
-use Rattle.mat_elem.specs.Terms.{termTests, inBlock}
+use Rattle.encoding.specs.Ranks.{line, byRank}
+use Rattle.mat_elem.specs.Terms.{termLines, inBlock}
 use Rattle.mat_elem.specs.Sums.{sumOver}
 use Rattle.mat_elem.specs.float.Sums.{wild}
 
@@ -37,7 +37,7 @@ exactMax = 2 ^ 53
 -- 1 to 11 do not refuse the call; the parts in its block are the whole numbers re and im, of any size; their absolute values add up to `most` at most.
 -- What re and im hold outside of the block does not matter
 pub record WholeBlock (most n : ℕ) (xs zs : List ℕ) (fr fi : List Float) (re im : List ℤ) (bra ket : ℕ) : Type 0 where
-  pub taken : fault (termTests n xs zs (length fr) (length fi) bra ket ++ wild fr fi ∷ []) ≡ 0
+  pub taken : byRank (termLines n xs zs (length fr) (length fi) bra ket ++ line 11 (wild fr fi) ∷ []) ≡ 0
   pub re-whole : (k : ℕ) → k < length xs → inBlock xs (bitXor bra ket) k ≡ true → Reads (getD fr k nan) (getD re k (pos 0))
   pub im-whole : (k : ℕ) → k < length xs → inBlock xs (bitXor bra ket) k ≡ true → Reads (getD fi k nan) (getD im k (pos 0))
   pub small : sizeTo xs re im (bitXor bra ket) (length xs) ≤ most

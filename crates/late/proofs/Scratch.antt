@@ -25,7 +25,8 @@ use Rattle.encoding.proofs.Parts.{length-part, row-long}
 use Rattle.encoding.proofs.Memory.{packed-of, within-limits}
 use Rattle.encoding.proofs.Sets.{set-passes}
 use Rattle.encoding.proofs.Scan.{some-none, some-never}
-use Rattle.encoding.specs.Refusals.{fault, some, tooLarge, setTests}
+use Rattle.encoding.specs.Refusals.{some, tooLarge, setLines}
+use Rattle.encoding.specs.Ranks.{byRank}
 use Rattle.encoding.proofs.Exponents.{laid-from, exponent-out}
 use Rattle.reduction.specs.Log.{capacity}
 use Rattle.reduction.specs.Workers.{Below, through, columnC}
@@ -143,10 +144,10 @@ of-below : (l : List ℕ) (m : ℕ) → Below m l → true ≡ some (tooLarge m)
 of-below l m h e = false≢true (sym (some-never (tooLarge m) 0 l (λ i g. lt-leb m (getD l i 0) (h i g))) ∙ sym e)
 
 module _ (n : ℕ) (order listed extra : List ℕ) (M : Mem) where
-  pub not-ready : (fault (setTests n M) ≡ 0 → ⊥) → Told (ListsIn n order listed extra M) false
+  pub not-ready : (byRank (setLines n M) ≡ 0 → ⊥) → Told (ListsIn n order listed extra M) false
   not-ready h = it-is-not refl (λ q. h (set-passes n M (q .sound)))
 
-  pub ready-if : Valid n (wordsOf n) M → fault (setTests n M) ≡ 0 → (a b c : Bool) → a ≡ some (tooLarge (n + n)) order → b ≡ some (tooLarge (count M)) listed
+  pub ready-if : Valid n (wordsOf n) M → byRank (setLines n M) ≡ 0 → (a b c : Bool) → a ≡ some (tooLarge (n + n)) order → b ≡ some (tooLarge (count M)) listed
       → c ≡ some (tooLarge (count M)) extra → Told (ListsIn n order listed extra M) (not (a || (b || c)))
   ready-if v e true b c ea eb ec = it-is-not refl (λ q. of-below order (n + n) (q .order-in) ea)
   ready-if v e false true c ea eb ec = it-is-not refl (λ q. of-below listed (count M) (q .listed-in) eb)

@@ -18,11 +18,11 @@ use Rattle.pauli.specs.Pauli.{Pauli, ofBits, turnPhase, act, actPhase}
 use Rattle.pauli.proofs.GaussRing.{by-parts, ipow-mod}
 use Rattle.pauli.proofs.Vectors.{⊗-g0, ⊗-g1, column-is}
 use Rattle.encoding.specs.Words.{odd, bit, word, bits}
-use Rattle.encoding.specs.Refusals.{fault}
+use Rattle.encoding.specs.Ranks.{byRank}
 use Rattle.encoding.proofs.Scan.{none-of}
 use Rattle.encoding.proofs.Odd.{xorᵇ, bit-odd, xor-odd, xor-half}
 use Rattle.encoding.proofs.WordLaws.{half-lt, back, length-word, length-bits, bits-act, Fit}
-use Rattle.mat_elem.specs.Terms.{setFrom, termTests, inBlock}
+use Rattle.mat_elem.specs.Terms.{setFrom, termLines, inBlock}
 use Rattle.mat_elem.specs.Sums.{exponentOf, stepIf, sumOver}
 use Rattle.mat_elem.specs.Operator.{termMatrix, stateOf, coefficient, operator}
 use Rattle.mat_elem.proofs.Bits.{set-none, low-of}
@@ -156,7 +156,7 @@ module _ (n : ℕ) (xs zs : List ℕ) (re im : List ℤ) (bra ket : ℕ) where
   entry-low l hb hk h = upto l hb hk h (length xs) (omega arith)
 
   -- where nothing is refused
-  pub operator-entry : (reals imags : ℕ) → fault (termTests n xs zs reals imags bra ket) ≡ 0 → Fit xs → Fit zs → bra < 2 ^ 64 → ket < 2 ^ 64
+  pub operator-entry : (reals imags : ℕ) → byRank (termLines n xs zs reals imags bra ket) ≡ 0 → Fit xs → Fit zs → bra < 2 ^ 64 → ket < 2 ^ 64
       → operator n xs zs re im (stateOf n bra) (stateOf n ket) ≡ sumOver (inBlock xs (bitXor bra ket)) _⊕_ g0 (adds xs zs re im ket) (length xs)
   operator-entry reals imags e fx fz hb hk =
       let s = sound n xs zs reals imags bra ket e in

@@ -1,5 +1,5 @@
 -- The lines of the table: tested in two parts, and what it tells that none of them fits the terms. Assumes nothing.
--- The first part's number comes first (`fault-append`); from number 0 each test is false, and that gives lengths, limits and order.
+-- The first part's number comes first (`rank-append`); from number 0 each test is false, and that gives lengths, limits and order.
 use mathlib.Core.Path.{_≡_, refl, sym, ap, ap₂, _∙_, subst₂}
 use mathlib.Core.Bool.{Bool, false, not, _||_}
 use mathlib.Core.List.{List}
@@ -10,11 +10,12 @@ use borrow.Author.Tests.{ltb-false, eqb-true, not-false}
 use lib.Bits.{bitXor}
 use lib.Dec.{ltb, eqb}
 use lib.ListN.{length}
-use Rattle.encoding.specs.Refusals.{fault, faultFrom}
-use Rattle.encoding.proofs.Faults.{no-test, orElse, or-none, or-first, fault-append}
+use Rattle.encoding.specs.Ranks.{byRank}
+use Rattle.encoding.proofs.Faults.{orElse, or-none, or-first}
+use Rattle.encoding.proofs.Ranks.{none-holds, rank-append}
 use Rattle.encoding.proofs.Scan.{none-of}
-use Rattle.mat_elem.specs.Terms.{minQubits, maxQubits, maxTerms, tooMany, badLengths, setFrom, badBits, falls, linesTo10, termTests}
-use Rattle.mat_elem.specs.Workers.{shapeTests, wordTests, blockFrom, blockTo, placeOf, foundOr, foundOf, BlockOf, PartOf}
+use Rattle.mat_elem.specs.Terms.{minQubits, maxQubits, maxTerms, tooMany, badLengths, setFrom, badBits, falls, linesTo10, termLines}
+use Rattle.mat_elem.specs.Workers.{shapeLines, wordLines, blockFrom, blockTo, placeOf, foundOr, foundOf, BlockOf, PartOf}
 use Rattle.mat_elem.specs.declared.Place.{Place}
 use Rattle.mat_elem.specs.declared.Found.the-variants.{Block, Refused}
 use Rattle.mat_elem.proofs.Places.{block-of}
@@ -33,9 +34,9 @@ pub record Shaped (n m z reals imags : ℕ) (many unequal : Bool) : Type 0 where
   pub not-many : many ≡ false
   pub equal : unequal ≡ false
 
-pub shape-sound : (n m z reals imags : ℕ) (many unequal : Bool) → fault (shapeTests n m z reals imags many unequal) ≡ 0 → Shaped n m z reals imags many unequal
+pub shape-sound : (n m z reals imags : ℕ) (many unequal : Bool) → byRank (shapeLines n m z reals imags many unequal) ≡ 0 → Shaped n m z reals imags many unequal
 shape-sound n m z reals imags many unequal e =
-    let no = no-test 0 (shapeTests n m z reals imags many unequal) e in
+    let no = none-holds (shapeLines n m z reals imags many unequal) refl e in
     let two = none-of many (tooMany m) (no 1) in
     let three = none-of unequal (badLengths m z reals imags) (no 2) in
     let zr = none-of (not (eqb z m) || not (eqb reals m)) (not (eqb imags m)) (three .1) in
@@ -64,16 +65,16 @@ pub record Sound (n : ℕ) (xs zs : List ℕ) (reals imags : ℕ) (many unequal 
 
 module _ (n : ℕ) (xs zs : List ℕ) (reals imags : ℕ) (many unequal beside : Bool) where
   abbrev shapeNo : ℕ
-  shapeNo = fault (shapeTests n (length xs) (length zs) reals imags many unequal)
+  shapeNo = byRank (shapeLines n (length xs) (length zs) reals imags many unequal)
 
   abbrev wordNo : ℕ
-  wordNo = faultFrom 4 (wordTests n xs zs beside)
+  wordNo = byRank (wordLines n xs zs beside)
 
   abbrev lineNo : ℕ
-  lineNo = fault (linesTo10 n xs zs reals imags many unequal beside)
+  lineNo = byRank (linesTo10 n xs zs reals imags many unequal beside)
 
   both : lineNo ≡ orElse shapeNo wordNo
-  both = fault-append 0 (shapeTests n (length xs) (length zs) reals imags many unequal) (wordTests n xs zs beside)
+  both = rank-append (shapeLines n (length xs) (length zs) reals imags many unequal) (wordLines n xs zs beside) refl
 
   -- ---- the number, from the two parts
   pub lines-shape : {k : ℕ} → k ≡ shapeNo → (k ≡ 0 → ⊥) → k ≡ lineNo
@@ -86,34 +87,34 @@ module _ (n : ℕ) (xs zs : List ℕ) (reals imags : ℕ) (many unequal beside :
   pub lines-sound : lineNo ≡ 0 → Sound n xs zs reals imags many unequal beside
   lines-sound e =
       let o = or-none shapeNo wordNo (sym both ∙ e) in
-      let no = no-test 3 (wordTests n xs zs beside) (o .1) in
+      let no = none-holds (wordLines n xs zs beside) refl (o .1) in
       let s = shape-sound n (length xs) (length zs) reals imags many unequal (o .0) in
-      record { shape = s .shape; not-many = s .not-many; equal = s .equal; low = no 0; rising = no 6 }
+      record { shape = s .shape; not-many = s .not-many; equal = s .equal; low = no 0; rising = no 1 }
 
 -- ---- one bra and one ket
 module _ (n : ℕ) (xs zs : List ℕ) (reals imags bra ket : ℕ) where
-  pub sound : fault (termTests n xs zs reals imags bra ket) ≡ 0 → Sound n xs zs reals imags false false (setFrom n bra || setFrom n ket)
+  pub sound : byRank (termLines n xs zs reals imags bra ket) ≡ 0 → Sound n xs zs reals imags false false (setFrom n bra || setFrom n ket)
   sound = lines-sound n xs zs reals imags false false (setFrom n bra || setFrom n ket)
 
-  pub number-is : {p q : Bool} {k : ℕ} → p ≡ setFrom n bra → q ≡ setFrom n ket → k ≡ fault (linesTo10 n xs zs reals imags false false (p || q))
-      → k ≡ fault (termTests n xs zs reals imags bra ket)
-  number-is e f g = g ∙ ap₂ (λ (x y : Bool). fault (linesTo10 n xs zs reals imags false false (x || y))) e f
+  pub number-is : {p q : Bool} {k : ℕ} → p ≡ setFrom n bra → q ≡ setFrom n ket → k ≡ byRank (linesTo10 n xs zs reals imags false false (p || q))
+      → k ≡ byRank (termLines n xs zs reals imags bra ket)
+  number-is e f g = g ∙ ap₂ (λ (x y : Bool). byRank (linesTo10 n xs zs reals imags false false (x || y))) e f
 
   -- ---- what is found
-  pub found-refused : (k : ℕ) → (k ≡ 0 → ⊥) → fault (termTests n xs zs reals imags bra ket) ≡ k → Refused k ≡ foundOf n xs zs reals imags bra ket
+  pub found-refused : (k : ℕ) → (k ≡ 0 → ⊥) → byRank (termLines n xs zs reals imags bra ket) ≡ k → Refused k ≡ foundOf n xs zs reals imags bra ket
   unfolding foundOf
   found-refused zero h e = absurd (h refl)
   found-refused (suc k) h e = rw e
 
-  pub found-none : fault (termTests n xs zs reals imags bra ket) ≡ 0 → {p : Place} → p ≡ placeOf xs (bitXor bra ket) → Block (p .first) (p .last) ≡ foundOf n xs zs reals imags bra ket
+  pub found-none : byRank (termLines n xs zs reals imags bra ket) ≡ 0 → {p : Place} → p ≡ placeOf xs (bitXor bra ket) → Block (p .first) (p .last) ≡ foundOf n xs zs reals imags bra ket
   unfolding foundOf
   found-none e q = rw (e, q)
 
   -- ---- what a caller learns from it
   abbrev number : ℕ
-  number = fault (termTests n xs zs reals imags bra ket)
+  number = byRank (termLines n xs zs reals imags bra ket)
 
-  pub found-refusal : {k : ℕ} → foundOf n xs zs reals imags bra ket ≡ Refused k → (fault (termTests n xs zs reals imags bra ket) ≡ k) × (k ≡ 0 → ⊥)
+  pub found-refusal : {k : ℕ} → foundOf n xs zs reals imags bra ket ≡ Refused k → (byRank (termLines n xs zs reals imags bra ket) ≡ k) × (k ≡ 0 → ⊥)
   unfolding foundOf
   found-refusal {k} e = go number refl e
     where
@@ -122,7 +123,7 @@ module _ (n : ℕ) (xs zs : List ℕ) (reals imags bra ket : ℕ) where
       go (suc j) z q = let s : suc j ≡ k = cc in (z ∙ s, λ h. suc-ne-zero j (s ∙ h))
 
   pub found-block : {first last : ℕ} → foundOf n xs zs reals imags bra ket ≡ Block first last
-      → (fault (termTests n xs zs reals imags bra ket) ≡ 0) × BlockOf xs (bitXor bra ket) first last
+      → (byRank (termLines n xs zs reals imags bra ket) ≡ 0) × BlockOf xs (bitXor bra ket) first last
   unfolding foundOf
   found-block {first} {last} e = go number refl e
     where

@@ -6,8 +6,8 @@ use mathlib.Core.Bool.{Bool, true, false}
 use mathlib.Core.List.{List}
 use Prim.Native.Nat.{ℕ, zero, suc, _<_}
 use lib.ListN.{length, getD}
-use Rattle.encoding.specs.Refusals.{fault}
-use Rattle.encoding.proofs.Faults.{First, refused-exactly}
+use Rattle.encoding.specs.Ranks.{TableLine, byRank}
+use Rattle.encoding.proofs.Ranks.{Given, given-exactly}
 use Rattle.mat_elem.specs.Terms.{hasBlock}
 use Rattle.mat_elem.specs.Sums.{oneOf}
 use Rattle.mat_elem.proofs.SumLaws.{no-term}
@@ -34,8 +34,8 @@ module _ {E : Type 0} (refused : ℕ → E) (none sum : E) (d : Differ refused n
   none-of (suc k) b e = absurd (d .refused-none (suc k) e)
 
   -- a number of the table is given exactly when its line fits and none before it does
-  pub refused-when : (tests : List Bool) (b : Bool) (j : ℕ) → (answer (fault tests) b ≡ refused (suc j)) ↔ First tests j
-  refused-when tests b j = (λ e. refused-exactly tests j .0 (number-of (fault tests) j b e), λ f. ap (λ (k : ℕ). answer k b) (refused-exactly tests j .1 f))
+  pub refused-when : (ls : List TableLine) (b : Bool) (j : ℕ) → (answer (byRank ls) b ≡ refused (suc j)) ↔ Given (suc j) ls
+  refused-when ls b j = (λ e. given-exactly ls j .0 (number-of (byRank ls) j b e), λ f. ap (λ (k : ℕ). answer k b) (given-exactly ls j .1 f))
 
   -- "no block" is given exactly when nothing is refused and no term has that X
   pub none-when : (k : ℕ) (xs : List ℕ) (t : ℕ) → (answer k (hasBlock xs t) ≡ none) ↔ ((k ≡ 0) × ((i : ℕ) → i < length xs → getD xs i 0 ≡ t → ⊥))

@@ -7,6 +7,7 @@ use lib.Dec.{ltb, eqb}
 use lib.ListN.{length, getD, drop}
 use Rattle.encoding.specs.Words.{bits}
 use Rattle.encoding.specs.Refusals.{some}
+use Rattle.encoding.specs.Ranks.{TableLine, line}
 
 -- n from 1 to 64; 0 to 65,536 terms
 abbrev pub minQubits : ℕ
@@ -46,25 +47,20 @@ fallsAfter p (w ∷ ws) = ltb w p || fallsAfter w ws
 abbrev pub falls : List ℕ → Bool
 falls xs = fallsAfter 0 xs
 
--- the lines 1 to 10 of the table, each by its test; reals and imags are the numbers of real and of imaginary parts. What a call takes beside the terms
+-- the lines 1 to 4 and 10 of the table; reals and imags are the numbers of real and of imaginary parts. What a call takes beside the terms
 -- has its part of the lines 2, 3 and 4: many, unequal, beside
-abbrev pub linesTo10 : ℕ → List ℕ → List ℕ → ℕ → ℕ → Bool → Bool → Bool → List Bool
+abbrev pub linesTo10 : ℕ → List ℕ → List ℕ → ℕ → ℕ → Bool → Bool → Bool → List TableLine
 linesTo10 n xs zs reals imags many unequal beside =
-    badCount n
-    ∷ (many || tooMany (length xs))
-    ∷ (unequal || badLengths (length xs) (length zs) reals imags)
-    ∷ badBits n xs zs beside
-    ∷ false
-    ∷ false
-    ∷ false
-    ∷ false
-    ∷ false
-    ∷ falls xs
+    line 1 (badCount n)
+    ∷ line 2 (many || tooMany (length xs))
+    ∷ line 3 (unequal || badLengths (length xs) (length zs) reals imags)
+    ∷ line 4 (badBits n xs zs beside)
+    ∷ line 10 (falls xs)
     ∷ []
 
 -- beside one bra and one ket
-abbrev pub termTests : ℕ → List ℕ → List ℕ → ℕ → ℕ → ℕ → ℕ → List Bool
-termTests n xs zs reals imags bra ket = linesTo10 n xs zs reals imags false false (setFrom n bra || setFrom n ket)
+abbrev pub termLines : ℕ → List ℕ → List ℕ → ℕ → ℕ → ℕ → ℕ → List TableLine
+termLines n xs zs reals imags bra ket = linesTo10 n xs zs reals imags false false (setFrom n bra || setFrom n ket)
 
 -- ---- the block of t: the terms with X = t
 

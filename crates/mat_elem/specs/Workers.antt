@@ -10,8 +10,9 @@ use lib.Ieee.{Float}
 use lib.IntN.{ℤ, pos, natAbs}
 use lib.ListN.{length, getD}
 use Rattle.pauli.specs.Gauss.{Gauss, g0}
-use Rattle.encoding.specs.Refusals.{fault, some, someBelow}
-use Rattle.mat_elem.specs.Terms.{maxTerms, badCount, tooMany, badLengths, setFrom, badBits, falls, termTests}
+use Rattle.encoding.specs.Refusals.{some, someBelow}
+use Rattle.encoding.specs.Ranks.{TableLine, line, byRank}
+use Rattle.mat_elem.specs.Terms.{maxTerms, badCount, tooMany, badLengths, setFrom, badBits, falls, termLines}
 use Rattle.mat_elem.specs.Sums.{sumOver}
 use Rattle.checked.specs.Workers.{answer, checkedPair, plusChecked}
 use Rattle.checked.specs.declared.CheckedComplex.{CheckedComplex}
@@ -30,11 +31,11 @@ use Rattle.mat_elem.specs.declared.float.Element.the-variants as floatEl
 
 -- ---- the table in two parts: what the lengths tell, and what the words tell
 
-abbrev pub shapeTests : ℕ → ℕ → ℕ → ℕ → ℕ → Bool → Bool → List Bool
-shapeTests n m z reals imags many unequal = badCount n ∷ (many || tooMany m) ∷ (unequal || badLengths m z reals imags) ∷ []
+abbrev pub shapeLines : ℕ → ℕ → ℕ → ℕ → ℕ → Bool → Bool → List TableLine
+shapeLines n m z reals imags many unequal = line 1 (badCount n) ∷ line 2 (many || tooMany m) ∷ line 3 (unequal || badLengths m z reals imags) ∷ []
 
-abbrev pub wordTests : ℕ → List ℕ → List ℕ → Bool → List Bool
-wordTests n xs zs beside = badBits n xs zs beside ∷ false ∷ false ∷ false ∷ false ∷ false ∷ falls xs ∷ []
+abbrev pub wordLines : ℕ → List ℕ → List ℕ → Bool → List TableLine
+wordLines n xs zs beside = line 4 (badBits n xs zs beside) ∷ line 10 (falls xs) ∷ []
 
 -- ---- one pass over the terms: the bits set in some word, and falls
 pub record Looked (xs zs : List ℕ) (all : ℕ) (fell : Bool) : Type 0 where
@@ -82,7 +83,7 @@ foundOr (suc k) first last = Refused (suc k)
 
 unfoldable pub foundOf : ℕ → List ℕ → List ℕ → ℕ → ℕ → ℕ → ℕ → Found
 foundOf n xs zs reals imags bra ket =
-    foundOr (fault (termTests n xs zs reals imags bra ket)) (blockFrom xs (bitXor bra ket)) (blockTo xs (bitXor bra ket))
+    foundOr (byRank (termLines n xs zs reals imags bra ket)) (blockFrom xs (bitXor bra ket)) (blockTo xs (bitXor bra ket))
 
 -- ---- whole numbers: i32 parts, i64 sums and 65,536 terms (RULES 8.1, 8.7), so that no sum leaves its 64 bits
 

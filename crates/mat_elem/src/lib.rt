@@ -4,10 +4,10 @@ ghost use mathlib.Core.Bool.{false};
 ghost use Prim.Native.Nat.{suc, _^_, _≤_, _<_};
 ghost use lib.Dec.{ltb};
 ghost use lib.ListN.{length};
-ghost use Rattle.encoding.specs.Refusals.{fault, faultFrom};
+ghost use Rattle.encoding.specs.Ranks.{byRank};
 ghost use Rattle.mat_elem.specs.Terms.{maxQubits, setFrom, falls, linesTo10};
 ghost use Rattle.mat_elem.specs.Lent.{lent};
-ghost use Rattle.mat_elem.specs.Workers.{shapeTests, wordTests, Looked, blockFrom, placeOf, foundOf};
+ghost use Rattle.mat_elem.specs.Workers.{shapeLines, wordLines, Looked, blockFrom, placeOf, foundOf};
 ghost use Rattle.mat_elem.specs.Sums.{exponentOf};
 use pauli::ComplexSign;
 use std::num::wrapping_sub_u64;
@@ -45,7 +45,7 @@ fn shape_fault(
     many: bool,
     unequal: bool,
 ) -> u8
-    ensures { λ r. ⌜ r ≡ fault (shapeTests n m z reals imags many unequal) ⌝ }
+    ensures { λ r. ⌜ r ≡ byRank (shapeLines n m z reals imags many unequal) ⌝ }
 {
     if (n < MIN_QUBITS) | (MAX_QUBITS < n) {
         return 1;
@@ -118,7 +118,7 @@ fn look(x: &[u64], z: &[u64]) -> Seen
 // The lines 4 to 10.
 fn word_fault(n: usize, x: &[u64], z: &[u64], beside: bool) -> u8
     requires { ⌜ length (now z) ≡ length (now x) ⌝ }
-    ensures { λ r. ⌜ r ≡ faultFrom 4 (wordTests n (lent x) (lent z) beside) ⌝ }
+    ensures { λ r. ⌜ r ≡ byRank (wordLines n (lent x) (lent z) beside) ⌝ }
 {
     let seen = look(x, z);
     if above(n, seen.all) | beside {
@@ -141,7 +141,7 @@ pub(crate) fn term_fault(
     unequal: bool,
     beside: bool,
 ) -> u8
-    ensures { λ r. ⌜ r ≡ fault (linesTo10 n (lent x) (lent z) reals imags many unequal beside) ⌝ }
+    ensures { λ r. ⌜ r ≡ byRank (linesTo10 n (lent x) (lent z) reals imags many unequal beside) ⌝ }
 {
     let shape = shape_fault(n, x.len(), z.len(), reals, imags, many, unequal);
     if shape != 0 {

@@ -2,12 +2,13 @@
 ghost use mathlib.Core.Path.{_≡_};
 ghost use mathlib.Core.Bool.{_||_};
 ghost use lib.ListN.{length};
-ghost use Rattle.encoding.specs.Refusals.{fault, some};
+ghost use Rattle.encoding.specs.Refusals.{some};
+ghost use Rattle.encoding.specs.Ranks.{byRank};
 ghost use Rattle.checked.specs.Range.{gauss};
 ghost use Rattle.mat_elem.specs.Terms.{setFrom};
 ghost use Rattle.mat_elem.specs.Lent.{lent, termsLent, stateLent};
 ghost use Rattle.mat_elem.specs.Workers.{Ready, Parted, overKets, overBras, totalOr};
-ghost use Rattle.mat_elem.specs.states.Sums.{listTests};
+ghost use Rattle.mat_elem.specs.states.Sums.{listLines};
 ghost use Rattle.mat_elem.specs.states.Vectors.{MatElem};
 use crate::guide;
 use crate::guide::STARTS;
@@ -56,7 +57,7 @@ fn states_fault(
     kreals: usize,
     kimags: usize,
 ) -> u8
-    ensures { λ r. ⌜ r ≡ fault (listTests n (lent x) (lent z) reals imags (lent bras) breals bimags (lent kets) kreals kimags) ⌝ }
+    ensures { λ r. ⌜ r ≡ byRank (listLines n (lent x) (lent z) reals imags (lent bras) breals bimags (lent kets) kreals kimags) ⌝ }
 {
     let b = bras.len();
     let k = kets.len();

@@ -1,22 +1,19 @@
 -- One row of a set changed: the memory laid from the rows with row r changed by f is a row set again, and holds these rows; two changes of the same row
 -- are one. What is laid is given by the rows below m alone. Assumes nothing.
-use mathlib.Core.Path.{_≡_, refl, sym, ap, ap₂, _∙_, subst}
+use mathlib.Core.Path.{_≡_, sym, ap, _∙_, subst}
 use mathlib.Core.Bool.{Bool, cond}
-use mathlib.Core.List.{List, _∷_}
-use Prim.Native.Nat.{ℕ, zero, suc, _*_, _≤_, _<_, suc-le-suc}
-use native.Mathlib.Nat.{zero-lt-suc}
+use Prim.Native.Nat.{ℕ, _*_, _≤_, _<_}
 use native.Mathlib.Decide.{ℕ-discrete}
 use native.Mathlib.Omega.{arith}
 use borrow.Author.Tests.{eq-eqb, ne-eqb}
 use lib.ListN.{length}
-use Rattle.pauli.specs.Pauli.{hasX, hasZ}
 use Rattle.pauli.specs.Row.{Row}
 use Rattle.encoding.specs.Limits.{maxRows, wordsOf}
-use Rattle.encoding.specs.Words.{layRows}
-use Rattle.encoding.specs.Set.{Mem, count, rowsIn, rowsOf, list, layIn, lay, Valid, Sound}
-use Rattle.encoding.proofs.Exponents.{exponent-small, lay-alike}
+use Rattle.encoding.specs.Set.{Mem, count, rowsIn, rowsOf, lay, Valid, Sound}
+use Rattle.encoding.proofs.Exponents.{exponent-small}
 use Rattle.encoding.proofs.Memory.{row-count, read-lay, valid-lay, count-lay}
 use Rattle.one_qubit.specs.Leaves.{atRow}
+pub use Rattle.encoding.proofs.Sets.{list-same, lay-same}
 
 module _ (σ : ℕ → Row) (r : ℕ) (f : Row → Row) (k : ℕ) where
   pub row-here : k ≡ r → atRow σ r f k ≡ f (σ k)
@@ -26,20 +23,6 @@ module _ (σ : ℕ → Row) (r : ℕ) (f : Row → Row) (k : ℕ) where
   pub row-other : (k ≡ r → ⊥) → atRow σ r f k ≡ σ k
   unfolding atRow
   row-other ne = ap (λ (b : Bool). cond b (f (σ k)) (σ k)) (ne-eqb k r ne)
-
--- ---- lists and what is laid, by their elements below m
-
-pub list-same : {A : Type 0} (m : ℕ) (f g : ℕ → A) → ((k : ℕ) → k < m → f k ≡ g k) → list m f ≡ list m g
-unfolding list
-list-same zero f g h = refl
-list-same {A} (suc m) f g h = ap₂ (λ (a : A) (l : List A). a ∷ l) (h 0 (zero-lt-suc m)) (list-same m (λ k. f (suc k)) (λ k. g (suc k)) (λ k l. h (suc k) (suc-le-suc l)))
-
-pub lay-same : (n m : ℕ) (σ τ : ℕ → Row) → ((k : ℕ) → k < m → σ k ≡ τ k) → lay n m σ ≡ lay n m τ
-unfolding layIn
-lay-same n m σ τ h =
-    let ps : list m (λ k. σ k .ps) ≡ list m (λ k. τ k .ps) = list-same m (λ k. σ k .ps) (λ k. τ k .ps) (λ k l. ap (λ (x : Row). x .ps) (h k l)) in
-    let es = lay-alike m (λ k. σ k .p) (λ k. τ k .p) (λ k l. ap (λ (x : Row). x .p) (h k l)) in
-    λ i. record { m = m; xs = layRows hasX (wordsOf n) (ps i); zs = layRows hasZ (wordsOf n) (ps i); es = es i }
 
 -- ---- rows of n qubits with exponents below 4
 

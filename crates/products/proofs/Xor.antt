@@ -13,7 +13,8 @@ use Rattle.pauli.proofs.Lists.{each-take}
 use Rattle.encoding.specs.Limits.{wordsOf}
 use Rattle.encoding.specs.Words.{unbits, pack}
 use Rattle.encoding.specs.Set.{row, Mem, count, rowsIn, rowsOf, Valid, stateOf, layState}
-use Rattle.encoding.specs.Refusals.{fault, stateTests}
+use Rattle.encoding.specs.Refusals.{stateLines}
+use Rattle.encoding.specs.Ranks.{byRank}
 use Rattle.encoding.proofs.WordLaws.{Fit, xors, pack-b, unbits-act}
 use Rattle.encoding.proofs.Padding.{pack-cut, each-only}
 use Rattle.encoding.proofs.Parts.{fit-part}
@@ -46,7 +47,7 @@ module _ (n w : ℕ) {M N : Mem} (v : Valid n w M) (u : Valid n w N) (a b : ℕ)
 
 -- ---- a row on a state
 
-module _ (n : ℕ) {M : Mem} (v : Valid n (wordsOf n) M) (r : ℕ) (hr : r < count M) (st : List ℕ) (z : fault (stateTests n st) ≡ 0) where
+module _ (n : ℕ) {M : Mem} (v : Valid n (wordsOf n) M) (r : ℕ) (hr : r < count M) (st : List ℕ) (z : byRank (stateLines n st) ≡ 0) where
   -- what the words hold is what the row and the state are
   pub acted-is : pack (λ (b : Bool). b) (wordsOf n) (act (inWords (wordsOf n) M r) (unbits st)) ≡ layState n (actOn n (rowsOf n M r) (stateOf n st))
   acted-is =

@@ -15,7 +15,8 @@ use Rattle.pwl.specs.Calls.{runLines, unitsOf, claimedOf, Outputs, outpu
 use Rattle.pwl.specs.Workers.{placesBy, placesOf}
 use Rattle.pwl.proofs.Round.{length-nums}
 use Rattle.pwl.proofs.Opens.{refused}
-use Rattle.pwl.proofs.Writes.{rank-append, run-numbered}
+use Rattle.encoding.proofs.Ranks.{rank-append}
+use Rattle.pwl.proofs.Writes.{run-counted}
 
 -- ---- numbers side by side
 
@@ -139,7 +140,7 @@ left-is k h r o n = record { answer = refused k h n; left = kept k o (filledBy r
 
 module _ (h : Front) (r : Run) (o : Outputs) {k : ℕ} (e : k ≡ byRank (runLines r)) where
   in-turn : byRank (runLines r ++ roomLines r o) ≡ orElse k (byRank (roomLines r o))
-  in-turn = rank-append (runLines r) (roomLines r o) (run-numbered r) ∙ ap (λ (j : ℕ). orElse j (byRank (roomLines r o))) (sym e)
+  in-turn = rank-append (runLines r) (roomLines r o) (run-counted r) ∙ ap (λ (j : ℕ). orElse j (byRank (roomLines r o))) (sym e)
 
   pub run-refused : (k ≡ 0 → ⊥) → RunRead (byRank (runLines r ++ roomLines r o)) h r o o (Refused k)
   run-refused n = subst (λ (j : ℕ). RunRead j h r o o (Refused k)) (sym (in-turn ∙ or-first k _ n)) (left-is k h r o n)
@@ -159,8 +160,7 @@ module _ (h : Front) (r : Run) (o : Outputs) {k : ℕ} (e : k ≡ byRank (runLin
 module _ (s : List ℕ) (o : Outputs) {k : ℕ} (e : k ≡ fileFault s) where
   first-of-file : readFault s o ≡ orElse k (byRank (runLines (readRun s) ++ roomLines (readRun s) o))
   first-of-file =
-      rank-append (fileLines s) (runLines (readRun s) ++ roomLines (readRun s) o)
-      ((λ y. suc-ne-zero 16 y), ((λ y. suc-ne-zero 17 y), ((λ y. suc-ne-zero 18 y), ((λ y. suc-ne-zero 19 y), tt))))
+      rank-append (fileLines s) (runLines (readRun s) ++ roomLines (readRun s) o) refl
       ∙ ap (λ (j : ℕ). orElse j (byRank (runLines (readRun s) ++ roomLines (readRun s) o))) (sym e)
 
   pub read-refused : (k ≡ 0 → ⊥) → Reads s o o (Refused k)

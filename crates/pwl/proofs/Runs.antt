@@ -3,10 +3,10 @@ use Rattle.pwl.proofs.Kit.{_≡_, refl, sym, ap, _∙_, subst, Bool, fa
 use Rattle.encoding.specs.Limits.{maxQubits, maxRows, wordsOf}
 use Rattle.encoding.specs.Words.{odd}
 use Rattle.encoding.specs.Set.{Mem, phaseUnits, Valid}
-use Rattle.encoding.specs.Refusals.{fault, joined, least, setTests}
-use Rattle.encoding.specs.Ranks.{byRank, numbered}
+use Rattle.encoding.specs.Refusals.{least, setLines}
+use Rattle.encoding.specs.Ranks.{byRank, placeIn, placed, joined}
 use Rattle.encoding.proofs.Faults.{orElse}
-use Rattle.encoding.proofs.Ranks.{or-zero}
+use Rattle.terms.proofs.Whole.{or-zero}
 use Rattle.terms.specs.Refused.{listLines}
 use Rattle.terms.proofs.Answers.{reduce-first, reduce-told}
 use Rattle.replay.specs.Check.{oddLog}
@@ -86,10 +86,10 @@ module _ (f : Front) (s : List ℕ) (at : Places) (e : at ≡ placesOf f) where
   unfolding runBy runOf readParts shapesBy placesBy
   extra-is = ap (λ (p : Places). nums 2 (f .extra) (drop (p .extra) s)) e
 
-  module _ {k : ℕ} (ek : k ≡ fault (setTests (f .n) (setAt (f .m) (at .words) (at .phases) (at .start) s)))
+  module _ {k : ℕ} (ek : k ≡ byRank (setLines (f .n) (setAt (f .m) (at .words) (at .phases) (at .start) s)))
       (vk : k ≡ 0 → Valid (f .n) (wordsOf (f .n)) (setAt (f .m) (at .words) (at .phases) (at .start) s)) where
-    number : k ≡ fault (setTests (f .n) (taskOf (runBy f s) .start))
-    number = ek ∙ ap (λ (M : Mem). fault (setTests (f .n) M)) start-is
+    number : k ≡ byRank (setLines (f .n) (taskOf (runBy f s) .start))
+    number = ek ∙ ap (λ (M : Mem). byRank (setLines (f .n) M)) start-is
 
     valid : k ≡ 0 → Valid (f .n) (wordsOf (f .n)) (taskOf (runBy f s) .start)
     valid z = subst (Valid (f .n) (wordsOf (f .n))) start-is (vk z)
@@ -112,17 +112,17 @@ module _ (f : Front) (s : List ℕ) (at : Places) (e : at ≡ placesOf f) where
       let l : length (runBy f s .log) ≡ 2 * f .entries = length-nums 2 (2 * f .entries) _ in
       ne-eqb (length (runBy f s .log) % 2) 1 (λ z. omega (arith, z, l))
 
-  pub run-number : {a b k : ℕ} → TaskFault f s a → b ≡ fault (setTests (f .n) (setAt (f .m) (at .words) (at .phases) (at .claim) s)) → k ≡ least a b → k ≡ byRank (runLines (runBy f s))
+  pub run-number : {a b k : ℕ} → TaskFault f s a → b ≡ byRank (setLines (f .n) (setAt (f .m) (at .words) (at .phases) (at .claim) s)) → k ≡ least a b → k ≡ byRank (runLines (runBy f s))
   unfolding byRank runBy runOf
   run-number {a} {b} {k} ea eb ek =
-      check-number (taskOf (runBy f s)) (claimOf (runBy f s)) ea (eb ∙ ap (λ (M : Mem). fault (setTests (f .n) M)) claim-is) ek
+      check-number (taskOf (runBy f s)) (claimOf (runBy f s)) ea (eb ∙ ap (λ (M : Mem). byRank (setLines (f .n) M)) claim-is) ek
       (sym (first-of k (oddLog (length (runBy f s .log)) ∷ []) ∙ ap (λ (c : Bool). orElse k (cond c 9 0)) even-units ∙ or-zero k))
 
 -- the limits come first
 pub limit-1 : (f : Front) (s : List ℕ) → maxQubits < f .n → 1 ≡ byRank (runLines (runBy f s))
-unfolding byRank numbered joined runBy runOf
+unfolding byRank placeIn placed joined runBy runOf
 limit-1 f s h = simp (lt-ltb _ _ h)
 
 pub limit-2 : (f : Front) (s : List ℕ) → f .n ≤ maxQubits → maxRows < f .m → 2 ≡ byRank (runLines (runBy f s))
-unfolding byRank numbered joined runBy runOf
+unfolding byRank placeIn placed joined runBy runOf
 limit-2 f s h g = simp (le-ltb _ _ h, lt-ltb _ _ g)

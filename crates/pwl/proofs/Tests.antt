@@ -9,7 +9,8 @@ use mir.Val.{Fits}
 use Rattle.encoding.specs.Limits.{maxQubits, maxRows, wordsOf}
 use Rattle.encoding.specs.Words.{word}
 use Rattle.encoding.specs.Set.{phaseUnits, Valid}
-use Rattle.encoding.specs.Refusals.{some, isOn, tooLarge, badBits, badPhases, wrongLengths, fault, setTests}
+use Rattle.encoding.specs.Refusals.{some, isOn, tooLarge, badBits, badPhases, wrongLengths, setLines}
+use Rattle.encoding.specs.Ranks.{byRank}
 use Rattle.encoding.proofs.Scan.{some-hit, some-more, some-end}
 use Rattle.encoding.proofs.Spare.{high, row-last}
 use Rattle.encoding.proofs.Exponents.{spare-out}
@@ -94,7 +95,7 @@ words-fit c t b k = go (decLt k c)
 pub set-seen : (n m q v at : ℕ) (s : List ℕ) → ((i : ℕ) → getD s i 0 < 256) → n ≤ maxQubits → m ≤ maxRows → q ≡ m * wordsOf n → v ≡ phaseUnits m
     → (w : ℕ) → w ≡ wordsOf n → {b p : Bool} {r₄ r₅ : ℕ} → b ≡ badBits n m w (nums 8 q (drop at s)) (nums 8 q (drop (at + 8 * q) s))
     → p ≡ badPhases m (nums 8 v (drop (at + 8 * q + 8 * q) s)) → r₅ ≡ cond p 5 0 → r₄ ≡ cond b 4 r₅
-    → (r₄ ≡ fault (setTests n (setAt m q v at s))) × (r₄ ≡ 0 → Valid n (wordsOf n) (setAt m q v at s))
+    → (r₄ ≡ byRank (setLines n (setAt m q v at s))) × (r₄ ≡ 0 → Valid n (wordsOf n) (setAt m q v at s))
 set-seen n m q v at s f hn hm hq hv w hw {b} {p} {r₄} {r₅} eb ep e5 e4 =
     let M = setAt m q v at s in
     let bs = bytes-of s f in

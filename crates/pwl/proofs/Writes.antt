@@ -3,13 +3,13 @@ use Rattle.pwl.proofs.Kit.{_≡_, refl, sym, ap, _∙_, subst, Bool, tr
 use native.Mathlib.Nat.{suc-ne-zero}
 use borrow.Author.Tests.{eqb-false}
 use Rattle.encoding.specs.Words.{odd}
-use Rattle.encoding.specs.Refusals.{fault, leftOr}
-use Rattle.encoding.specs.Ranks.{TableLine, byRank, numbered}
-use Rattle.encoding.proofs.Faults.{orElse, or-none, or-first, kept}
-use Rattle.encoding.proofs.Ranks.{ranked}
+use Rattle.encoding.specs.Refusals.{leftOr}
+use Rattle.encoding.specs.Ranks.{byRank, placeIn, placed, joined}
+use Rattle.encoding.proofs.Faults.{orElse, or-none, or-first, not-large, kept}
+use Rattle.encoding.proofs.Ranks.{counted, rank-append}
 use Rattle.encoding.proofs.Exponents.{laid-long}
-use Rattle.terms.specs.Refused.{columnTwice}
-use Rattle.replay.specs.Check.{checkTests, oddLog, Passed}
+use Rattle.replay.specs.Check.{Passed}
+use Rattle.replay.proofs.Faults.{check-none}
 use Rattle.pwl.specs.declared.Written.{Written}
 use Rattle.pwl.specs.declared.Written.the-variants as written
 use Rattle.pwl.specs.File.{Run, frontFor, body, image, Shape, shape, shapesBy, shapesOf, wholeLen, lengthLines}
@@ -17,44 +17,16 @@ use Rattle.pwl.specs.Calls.{taskOf, claimOf, runLines, shortLine, writeF
 use Rattle.pwl.specs.Workers.{Shaped, Imaged}
 use Rattle.pwl.proofs.Image.{whole-length}
 
--- ---- lines, and lines below them
+-- ---- the lines of a run, and lines below them
 
--- no line has the number 0
-abbrev Numbered : List TableLine → Type 0
-Numbered [] = Unit {0}
-Numbered (l ∷ ls) = (l .number ≡ 0 → ⊥) × Numbered ls
-
-first : (b : Bool) (k rest more : ℕ) → (k ≡ 0 → ⊥) → (k′ : ℕ) → k′ ≡ orElse rest more → cond b k k′ ≡ orElse (cond b k rest) more
-first true zero rest more n k′ e = absurd (n refl)
-first true (suc k) rest more n k′ e = refl
-first false k rest more n k′ e = e
-
-pub rank-append : (ls ks : List TableLine) → Numbered ls → byRank (ls ++ ks) ≡ orElse (byRank ls) (byRank ks)
-unfolding byRank
-rank-append [] ks n = refl
-rank-append (l ∷ ls) ks n = first (l .holds) (l .number) (byRank ls) (byRank ks) (n .0) (byRank (ls ++ ks)) (rank-append ls ks (n .1))
-
-pub numbered-append : (k : ℕ) (ts : List Bool) (ls : List TableLine) → Numbered ls → Numbered (numbered (suc k) ts ++ ls)
-unfolding numbered
-numbered-append k [] ls n = n
-numbered-append k (t ∷ ts) ls n = ((λ z. suc-ne-zero k z), numbered-append (suc k) ts ls n)
-
-pub run-numbered : (r : Run) → Numbered (runLines r)
-run-numbered r = numbered-append 0 (checkTests (taskOf r) (claimOf r)) _ ((λ z. suc-ne-zero 14 z), ((λ z. suc-ne-zero 8 z), tt))
+pub run-counted : (r : Run) → counted (runLines r) ≡ true
+unfolding placeIn placed joined
+run-counted r = refl
 
 -- ---- what the table leaves
 
-last-off : (a b : Bool) → _≡_ {A = ℕ} (cond a 15 (cond b 9 0)) 0 → b ≡ false
-last-off true b e = absurd (suc-ne-zero 14 e)
-last-off false true e = absurd (suc-ne-zero 8 e)
-last-off false false e = refl
-
 even-log : (r : Run) → byRank (runLines r) ≡ 0 → odd (length (r .log)) ≡ false
-unfolding byRank
-even-log r z =
-    let ts = checkTests (taskOf r) (claimOf r) in
-    let ls = columnTwice (r .order) ∷ oddLog (length (r .log)) ∷ [] in
-    last-off (columnTwice (r .order) .holds) (odd (length (r .log))) (or-none (fault ts) (byRank ls) (sym (ranked 0 ts ls) ∙ z) .1)
+even-log r z = check-none (taskOf r) (claimOf r) z .2
 
 halves : (k : ℕ) → odd k ≡ false → k ≡ 2 * (k / 2)
 halves k e = omega (arith, eqb-false (k % 2) 1 e)
@@ -114,7 +86,7 @@ module _ (r : Run) (out : List ℕ) (s : Shaped r) {k : ℕ} (e : k ≡ byRank (
 
 module _ (r : Run) (out : List ℕ) {f : ℕ} (e : f ≡ byRank (runLines r)) where
   in-turn : writeFault r out ≡ orElse f (byRank (shortLine r out ∷ []))
-  in-turn = rank-append (runLines r) (shortLine r out ∷ []) (run-numbered r) ∙ ap (λ (k : ℕ). orElse k (byRank (shortLine r out ∷ []))) (sym e)
+  in-turn = rank-append (runLines r) (shortLine r out ∷ []) (run-counted r) ∙ ap (λ (k : ℕ). orElse k (byRank (shortLine r out ∷ []))) (sym e)
 
   pub write-refused : (f ≡ 0 → ⊥) → Writes r out out (written.Refused f)
   write-refused n =

@@ -6,10 +6,10 @@ ghost use lib.ListN.{length, drop};
 ghost use Rattle.encoding.specs.Limits.{maxQubits, maxRows, wordsOf};
 ghost use Rattle.encoding.specs.Words.{word as Words·word};
 ghost use Rattle.encoding.specs.Set.{phaseUnits, Valid};
-ghost use Rattle.encoding.specs.Refusals.{some, isOn, tooLarge, badBits, badPhases, fault, setTests};
+ghost use Rattle.encoding.specs.Refusals.{some, isOn, tooLarge, badBits, badPhases, setLines};
 ghost use Rattle.encoding.specs.Ranks.{byRank};
 ghost use Rattle.terms.specs.Refused.{repeated, listLines};
-ghost use Rattle.terms.specs.Work.{Blank};
+ghost use Rattle.terms.specs.Workers.{Blank};
 ghost use Rattle.pwl.specs.Bytes.{nums};
 ghost use Rattle.pwl.specs.Workers.{setAt};
 use crate::bytes::two;
@@ -149,7 +149,7 @@ fn bad_phases(s: &[u8], at: usize, m: usize, v: usize) -> bool
 // 4 or 5 of a set that lies from a place on; else 0.
 pub(crate) fn set_fault(s: &[u8], at: usize, n: usize, m: usize, q: usize, v: usize) -> u8
     requires { ⌜ (n ≤ maxQubits) × (m ≤ maxRows) × (q ≡ m * wordsOf n) × (v ≡ phaseUnits m) × (at + 8 * q + 8 * q + 8 * v ≤ length (now s)) ⌝ }
-    ensures { λ r. ⌜ r ≡ fault (setTests n (setAt m q v at (now (s .entry)))) ⌝ }
+    ensures { λ r. ⌜ r ≡ byRank (setLines n (setAt m q v at (now (s .entry)))) ⌝ }
     ensures valid { λ r. ⌜ (r ≡ 0 → Valid n (wordsOf n) (setAt m q v at (now (s .entry)))) ⌝ }
 {
     let b = bad_bits(s, at, n, m, encoding::words(n), q);

@@ -21,7 +21,7 @@ use Rattle.reduction.specs.Checker.{firstDiff}
 use Rattle.pauli.proofs.Bools.{not-so}
 use Rattle.pauli.proofs.RowTests.{qubits→, →qubits}
 use native.Mathlib.Nat.{add-sub-cancel-left}
-use Rattle.replay.specs.Steps.{placeOf}
+use Rattle.replay.specs.Workers.{placeOf}
 
 -- ---- the words of a row
 

@@ -8,10 +8,7 @@ use Prim.Native.Nat.{ℕ, _<_, _≤_}
 use native.Mathlib.Omega.{arith}
 use borrow.Author.Tests.{eq-eqb, ne-eqb}
 use lib.ListN.{length}
-use Rattle.pauli.specs.Pauli.{Pauli, _·_}
-use Rattle.pauli.specs.Row.{Row, padMul, mulRow}
-use Rattle.pauli.proofs.Lists.{length-each}
-use Rattle.pauli.proofs.RowLaws.{pad-mul}
+use Rattle.pauli.specs.Row.{Row, mulRow}
 use Rattle.encoding.proofs.Memory.{Proper}
 use Rattle.reduction.specs.Lists.{All}
 use Rattle.reduction.specs.Rule.{Entry, mulAt}
@@ -21,7 +18,7 @@ use Rattle.reduction.specs.Demand.{Asked, Good}
 use Rattle.reduction.proofs.Lists.{all-mono, in-left}
 use Rattle.reduction.proofs.Entries.{bad-none}
 use Rattle.reduction.proofs.Run.{mulAt-ind}
-use Rattle.terms.proofs.Finished.{proper-mul}
+use Rattle.terms.proofs.Finished.{proper-mul, pad-long}
 use Rattle.replay.specs.Undo.{inverse, mulInverse, undo}
 use Rattle.replay.proofs.Inverse.{mul-back, back-mul}
 
@@ -63,9 +60,6 @@ module _ {n m : ℕ} {σ : ℕ → Row} (P : Proper n m σ) (e : Entry) (h : Apa
       (back-mul n (σ (e .target)) (σ (e .source)) long (P .small (e .target) (h .target-in)) (P .small (e .source) (h .source-in)))
 
 -- ---- a whole log
-
-pad-long : (n : ℕ) (a b : List Pauli) → length a ≡ n → length b ≡ n → length (padMul a b) ≡ n
-pad-long n a b p q = ap length (pad-mul a b (q ∙ sym p)) ∙ length-each _·_ a b (q ∙ sym p) ∙ p
 
 -- rows of n qubits stay so
 proper-back : {n m : ℕ} {σ : ℕ → Row} (a b : ℕ) → a < m → b < m → Proper n m σ → Proper n m (mulAt (mulInverse n) σ a b)

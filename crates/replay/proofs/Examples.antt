@@ -1,18 +1,19 @@
--- The lines of docs/AUDITOR.md, by the definitions of the contract: what the checker answers to each, and the working rows at its end. Assumes nothing.
+-- The lines of docs/AUDITOR.md, by the definitions of the contract: what the checker answers to each, and the working rows at its end. All is closed, so that
+-- unfolding what does not compute by itself leaves `refl`. Assumes nothing.
 use mathlib.Core.Path.{_≡_, refl}
 use mathlib.Core.List.{List, [], _∷_}
 use Prim.Native.Nat.{ℕ}
 use Rattle.pauli.specs.Row.{padMul, mulRow, bitOf, sameQubits}
 use Rattle.encoding.specs.Words.{word, unpack, join, pack, layRows}
 use Rattle.encoding.specs.Set.{Mem, memOf, wordIn, exponentAt, layExponents, rowsIn, list, layIn}
-use Rattle.encoding.specs.Refusals.{joined, some, someBelow, badBits, badPhases, leftOr}
+use Rattle.encoding.specs.Refusals.{some, someBelow, badBits, badPhases, leftOr}
 use Rattle.reduction.specs.Lists.{All, has, distinct, every}
 use Rattle.reduction.specs.Rule.{mulAt}
 use Rattle.reduction.specs.Replay.{replay}
 use Rattle.reduction.specs.Log.{pairs}
 use Rattle.reduction.specs.Form.{zeroIn, onlyIn, reducedFrom, reduced}
 use Rattle.reduction.specs.Checker.{good, firstBad, firstDiff, verdictBy, verdict, working, workingBy}
-use Rattle.encoding.specs.Ranks.{byRank, numbered}
+use Rattle.encoding.specs.Ranks.{byRank, placeIn, placed, joined}
 use Rattle.replay.specs.Check.{Task, task, Claim, claim, checkFault, givenOr, verdictOn, workingFor}
 use Rattle.replay.specs.declared.Verdict.{Verdict}
 use Rattle.replay.specs.declared.Verdict.the-variants.{BadEntry, Differs, NotReduced, Yes, Refused}
@@ -70,5 +71,5 @@ lines =
     ∷ []
 
 pub page : All Answered lines
-unfolding padMul mulRow bitOf sameQubits word unpack join pack layRows wordIn exponentAt layExponents rowsIn list layIn byRank numbered joined some someBelow badBits badPhases has distinct every mulAt replay pairs zeroIn onlyIn reducedFrom reduced good firstBad firstDiff verdictBy verdict working workingBy
+unfolding padMul mulRow bitOf sameQubits word unpack join pack layRows wordIn exponentAt layExponents rowsIn list layIn byRank placeIn placed joined some someBelow badBits badPhases has distinct every mulAt replay pairs zeroIn onlyIn reducedFrom reduced good firstBad firstDiff verdictBy verdict working workingBy
 page = ((refl, refl), ((refl, refl), ((refl, refl), ((refl, refl), ((refl, refl), ((refl, refl), ((refl, refl), ((refl, refl), ((refl, refl), ((refl, refl), tt))))))))))

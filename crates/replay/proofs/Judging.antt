@@ -26,10 +26,10 @@ use Rattle.reduction.specs.Demand.{Asked, Good}
 use Rattle.reduction.proofs.Lists.{all-mono, in-left, in-right}
 use Rattle.reduction.proofs.Log.{take-entries}
 use Rattle.reduction.proofs.Entries.{bad-none}
-use Rattle.terms.specs.Leaves.{bitIn, mulIn}
+use Rattle.terms.specs.Workers.{bitIn, mulIn}
 use Rattle.terms.proofs.RowView.{bit-view, mul-view}
 use Rattle.replay.specs.Check.{Task, task, Claim, claim, Passed, given, verdictOn}
-use Rattle.replay.specs.Steps.{self, redone, placeOf, Judged}
+use Rattle.replay.specs.Workers.{self, redone, placeOf, Judged}
 use Rattle.replay.specs.declared.Verdict.{Verdict}
 use Rattle.replay.specs.declared.Verdict.the-variants.{BadEntry, Differs, NotReduced, Yes}
 use Rattle.replay.proofs.Log.{place-in, place-out}

@@ -12,8 +12,8 @@ use Rattle.encoding.specs.Set.{Mem}
 use Rattle.reduction.specs.Rule.{Entry, entry}
 use Rattle.reduction.specs.Log.{pairs}
 use Rattle.reduction.proofs.Log.{pairs-at, pairs-end, take-more}
-use Rattle.terms.specs.Leaves.{mulIn}
-use Rattle.replay.specs.Steps.{firstBadBy, placeOf, redone}
+use Rattle.terms.specs.Workers.{mulIn}
+use Rattle.replay.specs.Workers.{firstBadBy, placeOf, redone}
 
 -- ---- places
 

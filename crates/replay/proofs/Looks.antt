@@ -11,8 +11,8 @@ use lib.ListN.{length, getD, drop, drop-of-length-le, length-drop}
 use lib.Seq.{drop-cons}
 use Rattle.reduction.specs.Lists.{every}
 use Rattle.reduction.specs.Form.{zeroIn, onlyIn, reducedFrom}
-use Rattle.terms.specs.Leaves.{bitIn, firstPlace}
-use Rattle.replay.specs.Steps.{offIn, self, Looked}
+use Rattle.terms.specs.Workers.{bitIn, firstPlace}
+use Rattle.replay.specs.Workers.{offIn, self, Looked}
 
 -- ---- one row of a column
 

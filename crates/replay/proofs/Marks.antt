@@ -5,7 +5,7 @@ use mathlib.Core.Logic.{⊎-elim}
 use mathlib.Core.Bool.{Bool, true, false, cond, not, _&&_, _||_}
 use mathlib.Core.List.{List, [], _∷_, _++_}
 use mathlib.Core.Option.{some}
-use Prim.Native.Nat.{ℕ, suc, _+_, _≤_, _<_}
+use Prim.Native.Nat.{ℕ, zero, suc, _+_, _≤_, _<_}
 use native.Mathlib.Numerals.{add-one}
 use borrow.Author.Tests.{eq-eqb, ne-eqb}
 use lib.Dec.{eqb, leb}
@@ -15,8 +15,13 @@ use Rattle.reduction.specs.Lists.{has}
 use Rattle.reduction.specs.Rule.{Entry, entry}
 use Rattle.reduction.specs.Checker.{good, firstBad}
 use Rattle.reduction.proofs.Lists.{same?}
-use Rattle.terms.proofs.Scans.{zeros}
-use Rattle.replay.specs.Steps.{Marked, goodBy, firstBadBy}
+use Rattle.replay.specs.Workers.{Marked, goodBy, firstBadBy}
+
+-- a table as it is made
+pub zeros : (m k : ℕ) → getD (replicate {A = ℕ} m 0) k 0 ≡ 0
+zeros zero k = refl
+zeros (suc m) zero = refl
+zeros (suc m) (suc k) = zeros m k
 
 -- ---- marking a list: what is left to mark, marked from here, is the whole, marked from the start
 

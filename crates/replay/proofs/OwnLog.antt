@@ -3,7 +3,7 @@
 use mathlib.Core.Path.{_≡_, refl, sym, ap, ap₂, _∙_, subst}
 use mathlib.Core.Bool.{Bool, false, cond}
 use mathlib.Core.Option.{some}
-use mathlib.Core.List.{List, [], _∷_}
+use mathlib.Core.List.{List, []}
 use Prim.Native.Nat.{ℕ, zero, suc, _+_, _*_, _%_, _≤_, _<_}
 use native.Mathlib.Omega.{arith}
 use borrow.Author.Tests.{ne-eqb}
@@ -12,8 +12,8 @@ use Rattle.pauli.specs.Row.{Row, mulRow, bitRow, sameRow}
 use Rattle.encoding.specs.Limits.{wordsOf}
 use Rattle.encoding.specs.Words.{odd}
 use Rattle.encoding.specs.Set.{Mem, count, rowsIn, rowsOf, lay, Valid}
-use Rattle.encoding.specs.Refusals.{fault, joined, least, setTests, leftOr}
-use Rattle.encoding.proofs.Faults.{joined-fault, least-none, orElse}
+use Rattle.encoding.specs.Refusals.{least, setLines, leftOr}
+use Rattle.encoding.proofs.Faults.{orElse}
 use Rattle.encoding.proofs.Memory.{Proper, mem-eq, within-limits, count-lay, read-lay, valid-lay}
 use Rattle.encoding.proofs.Sets.{same-words, same-phases, read-proper, set-passes}
 use Rattle.reduction.specs.Rule.{Run, reduce}
@@ -26,13 +26,12 @@ use Rattle.reduction.proofs.Entries.{none-bad}
 use Rattle.reduction.proofs.Theorems as theorems
 use Rattle.reduction.proofs.PauliRows.{rows-laws, rows-tell}
 use Rattle.encoding.specs.Ranks.{byRank}
-use Rattle.terms.specs.Refused.{listTests, reduceTests, columnTwice}
 use Rattle.terms.specs.Calls.{upTo, Reduces, ReducesAll}
 use Rattle.terms.specs.declared.Canonicalized.the-variants.{Done}
-use Rattle.encoding.proofs.Ranks.{ranked}
+use Rattle.replay.proofs.Faults.{check-in-turn}
 use Rattle.terms.proofs.Finished.{Finished, finished, none-refused, proper-replay, proper-set}
 use Rattle.terms.proofs.Whole.{whole-is, whole-names}
-use Rattle.replay.specs.Check.{Task, task, Claim, claim, claimTests, checkTests, oddLog, checkFault, givenOr, verdictOn, workingFor, Checked}
+use Rattle.replay.specs.Check.{Task, task, Claim, claim, checkFault, givenOr, verdictOn, workingFor, Checked}
 use Rattle.replay.specs.Demand.{EveryColumn}
 use Rattle.replay.specs.declared.Verdict.{Verdict}
 use Rattle.replay.specs.declared.Verdict.the-variants.{Yes}
@@ -68,11 +67,6 @@ yes-left {T} {L} {left} c =
 
 -- ---- our own finished logs
 
--- two parts that refuse nothing
-pub none-both : (ts us : List Bool) → fault ts ≡ 0 → fault us ≡ 0 → fault (joined ts us) ≡ 0
-unfolding least
-none-both ts us p q = sym (joined-fault ts us) ∙ ap₂ least p q
-
 pub log-passes : (k units : ℕ) → units ≡ 2 * k → odd units ≡ false
 log-passes k units e = ne-eqb (units % 2) 1 (λ o. omega arith)
 
@@ -91,10 +85,8 @@ module _ (T : Task) {M′ : Mem} {log′ : List ℕ} {k t : ℕ} (F : Finished (
   wide : T .n ≤ wordsOf (T .n) * 64
   wide = omega arith
 
-  start-passed : fault (setTests (T .n) (T .start)) ≡ 0
-  start-passed =
-      least-none _ _ (joined-fault (setTests (T .n) (T .start)) (listTests (T .n) (count (T .start)) (T .order) (T .listed) (T .extra))
-      ∙ none-refused (T .n) (T .start) (T .order) (T .listed) (T .extra) (F .no-fault) .0) .0
+  start-passed : byRank (setLines (T .n) (T .start)) ≡ 0
+  start-passed = none-refused (T .n) (T .start) (T .order) (T .listed) (T .extra) (F .no-fault) .0
 
   proper : Proper (T .n) (count (T .start)) (run .rows)
   unfolding run
@@ -115,19 +107,16 @@ module _ (T : Task) {M′ : Mem} {log′ : List ℕ} {k t : ℕ} (F : Finished (
   whole-entries = omega (arith, length-take (2 * k) log′, length-pairs (take (2 * k) log′), ap length cut, F .entries)
 
   pub own-passes : checkFault T (claim (take (2 * k) log′) M′) ≡ 0
-  unfolding run byRank
+  unfolding run byRank least
   own-passes =
       let n = T .n in
       let m = count (T .start) in
       let l = within-limits n (T .start) start-passed in
       let v : Valid n (wordsOf n) M′ = subst (Valid n (wordsOf n)) (sym (F .laid-out)) (valid-lay n (wordsOf n) m (run .rows) wide proper) in
-      let own = claim (take (2 * k) log′) M′ in
-      let no = none-refused n (T .start) (T .order) (T .listed) (T .extra) (F .no-fault) in
-      ranked 0 (checkTests T own) (columnTwice (T .order) ∷ oddLog (length (take (2 * k) log′)) ∷ [])
+      check-in-turn T (claim (take (2 * k) log′) M′)
       ∙ ap₂ orElse
-      (none-both (reduceTests n (T .start) (T .order) (T .listed) (T .extra)) (claimTests n M′) (no .0)
-      (set-passes n M′ (record { valid = v; few-qubits = l .0; few-rows = omega (arith, F .as-many) })))
-      (ap₂ (λ r o. cond r 15 (cond o 9 0)) (no .1) (log-passes k (length (take (2 * k) log′)) whole-entries))
+      (ap₂ least (F .no-fault) (set-passes n M′ (record { valid = v; few-qubits = l .0; few-rows = omega (arith, F .as-many) })))
+      (ap (λ o. cond o 9 0) (log-passes k (length (take (2 * k) log′)) whole-entries))
 
   pub own-accepted : verdictOn T (claim (take (2 * k) log′) M′) ≡ accepted
   unfolding run verdict

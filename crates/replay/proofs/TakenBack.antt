@@ -19,7 +19,7 @@ use Rattle.reduction.specs.Lists.{All}
 use Rattle.reduction.specs.Rule.{Entry, mulAt}
 use Rattle.reduction.specs.Log.{pairs}
 use Rattle.reduction.proofs.Log.{pairs-at, pairs-end}
-use Rattle.terms.specs.Leaves.{mulIn}
+use Rattle.terms.specs.Workers.{mulIn}
 use Rattle.terms.proofs.RowView.{mul-view}
 use Rattle.replay.specs.Undo.{mulInverse, undo}
 use Rattle.replay.specs.Workers.{turned, mulBackIn, takenBack}

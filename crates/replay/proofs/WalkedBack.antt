@@ -6,23 +6,20 @@ use mathlib.Core.Bool.{Bool, true, false, cond, not, _&&_, _||_}
 use mathlib.Core.List.{List, [], _∷_}
 use mathlib.Core.Option.{Option, none, some}
 use Prim.Native.Nat.{ℕ, zero, suc, _+_, _*_, _<_, _≤_}
-use native.Mathlib.Nat.{suc-ne-zero}
 use native.Mathlib.Omega.{arith}
 use lib.ListN.{length, take, length-take}
 use lib.Seq.{length-take-le}
-use Rattle.pauli.specs.Pauli.{hasX, hasZ}
 use Rattle.pauli.specs.Row.{Row, mulRow, bitRow}
 use Rattle.pauli.proofs.Bools.{not-so}
 use Rattle.encoding.specs.Limits.{maxRows, wordsOf}
-use Rattle.encoding.specs.Words.{odd, layRows}
-use Rattle.encoding.specs.Set.{Mem, memOf, count, rowsOf, list, layIn, lay, Sound}
-use Rattle.encoding.specs.Refusals.{faultFrom, fault, setTests, leftOr}
+use Rattle.encoding.specs.Words.{odd}
+use Rattle.encoding.specs.Set.{Mem, count, rowsOf, lay, Sound}
+use Rattle.encoding.specs.Refusals.{setLines, leftOr}
 use Rattle.encoding.specs.Refusals as refusals
-use Rattle.encoding.proofs.Faults.{joined-fault, least-none, orElse, or-none}
+use Rattle.encoding.proofs.Faults.{orElse}
 use Rattle.encoding.proofs.Memory.{Proper, count-lay, read-lay, lay-back, valid-of, valid-lay}
-use Rattle.encoding.proofs.Sets.{sound-of, set-passes}
+use Rattle.encoding.proofs.Sets.{sound-of, set-passes, lay-same}
 use Rattle.encoding.proofs.WordLaws.{Fit}
-use Rattle.encoding.proofs.Exponents.{laid-again, laid-as, exponent-laid}
 use Rattle.reduction.specs.Lists.{All, Distinct, distinct, has}
 use Rattle.reduction.specs.Rule.{Entry, mulAt, reduce}
 use Rattle.reduction.specs.Replay.{replay}
@@ -35,39 +32,25 @@ use Rattle.reduction.proofs.Lists.{all-mono, has→in, in-left, in-right}
 use Rattle.reduction.proofs.Entries.{bad-none, none-bad}
 use Rattle.reduction.proofs.Theorems.{log-replays, entries-good, cut-entries-good}
 use Rattle.encoding.specs.Ranks.{byRank}
-use Rattle.terms.specs.Refused.{repeated, listTests, reduceTests, columnTwice, reduceFault}
+use Rattle.terms.specs.Refused.{listLines, reduceLines, reduceFault}
 use Rattle.terms.specs.Calls.{Reduces, ReducesAll, upTo}
 use Rattle.terms.specs.declared.Canonicalized.the-variants.{Done, Full}
 use Rattle.terms.proofs.Finished.{proper-set, proper-replay, none-refused, finished, full-when, full-leaves}
-use Rattle.encoding.proofs.Ranks.{ranked}
+use Rattle.encoding.proofs.Ranks.{rank-append}
 use Rattle.terms.proofs.Scans.{asked-of}
 use Rattle.terms.proofs.Whole.{whole-is}
-use Rattle.replay.specs.Check.{Task, Claim, checkTests, checkFault, oddLog, given, givenOr, verdictOn, workingFor, Checked}
+use Rattle.replay.specs.Check.{Task, Claim, checkFault, oddLog, given, givenOr, verdictOn, workingFor, Checked}
 use Rattle.replay.specs.Undo.{undo, undoFault, undoneOr, backBy, backFor, Undoes}
 use Rattle.replay.specs.declared.Verdict.{Verdict}
 use Rattle.replay.specs.declared.Verdict.the-variants.{BadEntry, Differs, NotReduced, Yes, Refused}
 use Rattle.replay.specs.declared.Undone.{Undone}
 use Rattle.replay.specs.declared.Undone.the-variants as undone
 use Rattle.replay.proofs.Judging.{none-large}
-use Rattle.replay.proofs.OwnLog.{none-both, log-passes}
+use Rattle.replay.proofs.OwnLog.{log-passes}
+use Rattle.replay.proofs.Faults.{check-none}
 use Rattle.replay.proofs.Back.{Apart, apart, proper-undo, undo-replay, replay-undo}
 
 -- ---- rows that agree below m
-
-list-same : {A : Type 0} (m : ℕ) (f g : ℕ → A) → ((k : ℕ) → k < m → f k ≡ g k) → list m f ≡ list m g
-unfolding list
-list-same zero f g h = refl
-list-same (suc m) f g h = ap₂ (λ a l. a ∷ l) (h 0 (omega arith)) (list-same m (λ k. f (suc k)) (λ k. g (suc k)) (λ k l. h (suc k) (omega arith)))
-
-lay-same : (n m : ℕ) (σ τ : ℕ → Row) → Proper n m τ → ((k : ℕ) → k < m → σ k ≡ τ k) → lay n m σ ≡ lay n m τ
-unfolding layIn
-lay-same n m σ τ P h =
-    let p : ℕ → ℕ = λ k. σ k .p in
-    let q : ℕ → ℕ = λ k. τ k .p in
-    let same : (k : ℕ) → k < m → p k ≡ q k = λ k l. ap (λ (r : Row). r .p) (h k l) in
-    ap₂ (λ qs es. memOf m (layRows hasX (wordsOf n) qs) (layRows hasZ (wordsOf n) qs) es)
-    (list-same m (λ k. σ k .ps) (λ k. τ k .ps) (λ k l. ap (λ (r : Row). r .ps) (h k l)))
-    (laid-as m (laid-again m p) q (λ k l. exponent-laid m p k l (subst (λ (v : ℕ). v < 4) (sym (same k l)) (P .small k l)) ∙ same k l))
 
 undo-same : (n m : ℕ) (es : List Entry) (σ τ : ℕ → Row) → All (Apart m) es → ((k : ℕ) → k < m → σ k ≡ τ k) → (k : ℕ) → k < m → undo n σ es k ≡ undo n τ es k
 unfolding undo mulAt
@@ -104,8 +87,8 @@ unfolding distinct
 once [] d = refl
 once (x ∷ xs) d = ap₂ (λ a b. a && b) (ap not (not-so (has x xs) (λ t. d .0 (has→in x xs t)))) (once xs (d .1))
 
-lists-pass : {N m : ℕ} (n : ℕ) {order listed extra : List ℕ} → Asked N m order listed extra → fault (listTests n m [] listed extra) ≡ 0
-unfolding faultFrom refusals.some
+lists-pass : {N m : ℕ} (n : ℕ) {order listed extra : List ℕ} → Asked N m order listed extra → byRank (listLines n m [] listed extra) ≡ 0
+unfolding byRank refusals.some distinct
 lists-pass {N} {m} n {order} {listed} {extra} A =
     ap₂ (λ p q. cond p 6 (cond (not q) 7 0))
     (ap₂ (λ a b. a || b) (none-large m listed (λ k i. A .rows-in k (in-left k listed extra i))) (none-large m extra (λ k i. A .rows-in k (in-right k listed extra i))))
@@ -114,8 +97,8 @@ lists-pass {N} {m} n {order} {listed} {extra} A =
 pub undo-passes : {n N : ℕ} {M : Mem} {order listed extra : List ℕ} → Sound n M → Asked N (count M) order listed extra → (log : List ℕ) → odd (length log) ≡ false → undoFault n M listed extra log ≡ 0
 unfolding byRank
 undo-passes {n} {N} {M} {order} {listed} {extra} s A log even =
-    ranked 0 (reduceTests n M [] listed extra) (oddLog (length log) ∷ [])
-    ∙ ap₂ orElse (none-both (setTests n M) (listTests n (count M) [] listed extra) (set-passes n M s) (lists-pass n A)) (ap (λ b. cond b 9 0) even)
+    rank-append (reduceLines n M [] listed extra) (oddLog (length log) ∷ []) refl
+    ∙ ap₂ orElse (rank-append (setLines n M) (listLines n (count M) [] listed extra) refl ∙ ap₂ orElse (set-passes n M s) (lists-pass n A)) (ap (λ b. cond b 9 0) even)
 
 -- ---- a log whose entries all pass, from rows that refusals 1 to 7 passed
 
@@ -138,7 +121,7 @@ module _ {n N : ℕ} {M : Mem} {order listed extra : List ℕ} (s : Sound n M) (
         u .answer ∙ ap₂ undoneOr z good,
         u .rows ∙ ap (λ k. leftOr k M′ (backFor n listed extra log M′)) z
             ∙ ap₂ (λ k o. lay n k (backBy n o (rowsOf n M′) es)) (many s P e) good
-            ∙ lay-same n m (undo n (rowsOf n M′) es) (rowsOf n M) (proper-set s)
+            ∙ lay-same n m (undo n (rowsOf n M′) es) (rowsOf n M)
             (λ k l. undo-same n m es (rowsOf n M′) (replay (mulRow n) (rowsOf n M) es) all (reads s P e) k l ∙ ap (λ (τ : ℕ → Row). τ k) (undo-replay es (rowsOf n M) all (proper-set s)))
             ∙ lay-back n (wordsOf n) (s .valid),
       )
@@ -154,7 +137,7 @@ module _ {n N : ℕ} {M : Mem} {order listed extra : List ℕ} (s : Sound n M) (
       let e : M″ ≡ lay n m (undo n (rowsOf n M) es) = u .rows ∙ ap (λ k. leftOr k M (backFor n listed extra log M)) z ∙ ap (λ o. lay n m (backBy n o (rowsOf n M) es)) good in (
         u .answer ∙ ap₂ undoneOr z good,
         ap (λ k. lay n k (replay (mulRow n) (rowsOf n M″) es)) (many s P e)
-            ∙ lay-same n m (replay (mulRow n) (rowsOf n M″) es) (rowsOf n M) (proper-set s)
+            ∙ lay-same n m (replay (mulRow n) (rowsOf n M″) es) (rowsOf n M)
             (λ k l. replay-same n m es (rowsOf n M″) (undo n (rowsOf n M) es) all (reads s P e) k l ∙ ap (λ (τ : ℕ → Row). τ k) (replay-undo es (rowsOf n M) all (proper-set s)))
             ∙ lay-back n (wordsOf n) (s .valid),
       )
@@ -178,11 +161,6 @@ not-refused : (f : ℕ) (v : checker.Verdict) → Replayed (givenOr f v) → (f 
 not-refused zero v h = (refl, h)
 not-refused (suc f) v h = absurd h
 
-nine : (a b : Bool) → _≡_ {A = ℕ} (cond a 15 (cond b 9 0)) 0 → b ≡ false
-nine true b e = absurd (suc-ne-zero 14 e)
-nine false true e = absurd (suc-ne-zero 8 e)
-nine false false e = refl
-
 module _ {T : Task} {L : Claim} {r : Verdict} {left : Mem} (c : Checked T L r left) (h : Replayed r) where
   none-fits : (checkFault T L ≡ 0) × Replayed (given (verdictOn T L))
   none-fits = not-refused (checkFault T L) (verdictOn T L) (subst Replayed (c .answer) h)
@@ -192,11 +170,7 @@ module _ {T : Task} {L : Claim} {r : Verdict} {left : Mem} (c : Checked T L r le
   none-bad-in = no-bad (firstBad (T .listed) (T .extra) 0 (pairs (L .log))) _ _ (none-fits .1)
 
   pub even-log : odd (length (L .log)) ≡ false
-  unfolding byRank
-  even-log =
-      nine (repeated (T .order)) (odd (length (L .log)))
-      (or-none (fault (checkTests T L)) (byRank (columnTwice (T .order) ∷ oddLog (length (L .log)) ∷ []))
-      (sym (ranked 0 (checkTests T L) (columnTwice (T .order) ∷ oddLog (length (L .log)) ∷ [])) ∙ none-fits .0) .1)
+  even-log = check-none T L (none-fits .0) .2
 
   pub replayed-rows : left ≡ lay (T .n) (count (T .start)) (replay (mulRow (T .n)) (rowsOf (T .n) (T .start)) (pairs (L .log)))
   unfolding working workingBy
@@ -230,7 +204,7 @@ undone-checked {n} {M} {M″} {order} {listed} {extra} {log} {C} {left} {u} {r} 
 -- what no refusal tells of words that fit 64 bits
 reducible : (n : ℕ) (M : Mem) (order listed extra : List ℕ) → Fit (M .xs) → Fit (M .zs) → Fit (M .es) → reduceFault n M order listed extra ≡ 0 → Sound n M × Asked (n + n) (count M) order listed extra
 reducible n M order listed extra x z p e =
-    let no = least-none _ _ (joined-fault (setTests n M) (listTests n (count M) order listed extra) ∙ none-refused n M order listed extra e .0) in
+    let no = none-refused n M order listed extra e in
     (sound-of n M refl (valid-of n M x z p) (no .0), asked-of n (count M) order listed extra (no .1))
 
 module _ (n : ℕ) (order listed extra : List ℕ) (M : Mem) (log : List ℕ) {M′ : Mem} {log′ : List ℕ} (x : Fit (M .xs)) (z : Fit (M .zs)) (p : Fit (M .es)) where

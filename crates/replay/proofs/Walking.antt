@@ -1,4 +1,5 @@
--- The call `undo`: its refusals are the lines of `undoLines`, and what is not refused is walked back whole, or not at all. Assumes nothing.
+-- The call `undo`: its refusals are the lines of `undoLines`, those of the lists before that of the log (`undo-number`), and what is not refused is walked
+-- back whole, or not at all. Assumes nothing.
 use mathlib.Core.Path.{_≡_, refl, sym, ap, _∙_}
 use mathlib.Core.Bool.{not}
 use mathlib.Core.List.{List, [], _∷_}
@@ -7,20 +8,18 @@ use lib.Dec.{eqb}
 use lib.ListN.{length}
 use Rattle.encoding.specs.Limits.{wordsOf}
 use Rattle.encoding.specs.Set.{Mem, count, rowsOf, lay}
-use Rattle.encoding.specs.Refusals.{fault, leftOr}
+use Rattle.encoding.specs.Refusals.{leftOr}
 use Rattle.encoding.proofs.Faults.{orElse, or-none, kept}
 use Rattle.encoding.proofs.Memory.{lay-back}
-use Rattle.reduction.specs.Lists.{distinct}
 use Rattle.reduction.specs.Log.{pairs}
 use Rattle.reduction.specs.Checker.{firstBad}
 use Rattle.reduction.proofs.Entries.{bad-none}
-use Rattle.encoding.specs.Ranks.{line, byRank}
-use Rattle.terms.specs.Refused.{reduceTests, columnTwice, reduceFault, Reducible}
-use Rattle.encoding.proofs.Ranks.{ranked, or-zero}
+use Rattle.encoding.specs.Ranks.{byRank, line}
+use Rattle.terms.specs.Refused.{reduceLines, reduceFault, Reducible}
+use Rattle.encoding.proofs.Ranks.{rank-append}
 use Rattle.replay.specs.Check.{oddLog}
-use Rattle.replay.specs.Steps.{placeOf}
+use Rattle.replay.specs.Workers.{placeOf, takenBack, Walked}
 use Rattle.replay.specs.Undo.{undoFault, undoneBy, undoneOr, backBy, backFor, Undoes}
-use Rattle.replay.specs.Workers.{takenBack, Walked}
 use Rattle.replay.specs.declared.Undone.{Undone}
 use Rattle.replay.specs.declared.Undone.the-variants.{BadEntry, Done, Refused}
 use Rattle.replay.proofs.Faults.{first-of}
@@ -54,15 +53,10 @@ module _ (n : ℕ) (listed extra log : List ℕ) {M : Mem} (s : Reducible n [] l
 -- ---- the call
 
 module _ (n : ℕ) (listed extra log : List ℕ) (M : Mem) {f g : ℕ} (pf : f ≡ reduceFault n M [] listed extra) (pg : g ≡ byRank (line f (not (eqb f 0)) ∷ oddLog (length log) ∷ [])) where
-  -- an order of no columns never draws 15
-  before-log : f ≡ fault (reduceTests n M [] listed extra)
-  unfolding byRank distinct
-  before-log = pf ∙ ranked 0 (reduceTests n M [] listed extra) (columnTwice [] ∷ []) ∙ or-zero (fault (reduceTests n M [] listed extra))
-
   pub undo-number : g ≡ undoFault n M listed extra log
   undo-number =
-      pg ∙ first-of f (oddLog (length log) ∷ []) ∙ ap (λ k. orElse k (byRank (oddLog (length log) ∷ []))) before-log
-      ∙ sym (ranked 0 (reduceTests n M [] listed extra) (oddLog (length log) ∷ []))
+      pg ∙ first-of f (oddLog (length log) ∷ []) ∙ ap (λ k. orElse k (byRank (oddLog (length log) ∷ []))) pf
+      ∙ sym (rank-append (reduceLines n M [] listed extra) (oddLog (length log) ∷ []) refl)
 
   pub undo-passed : (f ≡ 0 → Reducible n [] listed extra M) → g ≡ 0 → Reducible n [] listed extra M
   undo-passed r z = r (or-none f (byRank (oddLog (length log) ∷ [])) (sym (first-of f (oddLog (length log) ∷ [])) ∙ sym pg ∙ z) .0)

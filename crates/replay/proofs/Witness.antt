@@ -9,13 +9,13 @@ use Rattle.pauli.specs.declared.PauliMatrix.the-variants.{I, Z}
 use Rattle.pauli.specs.Row.{Row, padMul, mulRow, bitOf, sameQubits}
 use Rattle.encoding.specs.Words.{word, unpack, join, pack, layRows}
 use Rattle.encoding.specs.Set.{Mem, memOf, wordIn, exponentAt, layExponents, rowsIn, rowsOf, list, layIn}
-use Rattle.encoding.specs.Refusals.{joined, some, someBelow, badBits, badPhases}
+use Rattle.encoding.specs.Refusals.{some, someBelow, badBits, badPhases}
 use Rattle.reduction.specs.Lists.{In, All, has, distinct, every}
 use Rattle.reduction.specs.Replay.{replay, productOf}
 use Rattle.reduction.specs.Log.{pairs}
 use Rattle.reduction.specs.Form.{zeroIn, onlyIn, reducedFrom, reduced}
 use Rattle.reduction.specs.Checker.{firstBad, firstDiff, verdictBy, verdict, working, workingBy}
-use Rattle.encoding.specs.Ranks.{byRank, numbered}
+use Rattle.encoding.specs.Ranks.{byRank, placeIn, placed, joined}
 use Rattle.replay.specs.Check.{Task, task, claim}
 use Rattle.replay.specs.Demand.{NoPhaseAtStart, EveryColumn}
 use Rattle.replay.specs.declared.Verdict.the-variants.{Yes}
@@ -29,7 +29,7 @@ one-row = task 1 start (0 ∷ 1 ∷ []) (0 ∷ []) []
 
 -- the checker says yes to it, and leaves it as it was
 pub accepted : Answered (record { given = one-row; claimed = claim [] start; says = Yes; left = start })
-unfolding padMul mulRow bitOf sameQubits word unpack join pack layRows wordIn exponentAt layExponents rowsIn list layIn byRank numbered joined some someBelow badBits badPhases has distinct every replay pairs zeroIn onlyIn reducedFrom reduced firstBad firstDiff verdictBy verdict working workingBy
+unfolding padMul mulRow bitOf sameQubits word unpack join pack layRows wordIn exponentAt layExponents rowsIn list layIn byRank placeIn placed joined some someBelow badBits badPhases has distinct every replay pairs zeroIn onlyIn reducedFrom reduced firstBad firstDiff verdictBy verdict working workingBy
 accepted = (refl, refl)
 
 pub every-column : EveryColumn one-row

@@ -1,7 +1,6 @@
 -- RULES 7, "The replay checker", and 9, "Refusals": what a check is given, its refusals, its answer, and the working rows at its end. The
 -- verdict itself stands in reduction's specs/Checker.antt. Assumes nothing.
 use mathlib.Core.Path.{_≡_}
-use mathlib.Core.Bool.{Bool}
 use mathlib.Core.List.{List, [], _∷_, _++_}
 use Prim.Native.Nat.{ℕ, zero, suc}
 use lib.ListN.{length}
@@ -9,12 +8,12 @@ use Rattle.pauli.specs.Row.{mulRow, bitRow, sameRow}
 use Rattle.encoding.specs.Limits.{wordsOf}
 use Rattle.encoding.specs.Words.{odd}
 use Rattle.encoding.specs.Set.{Mem, count, rowsOf, lay, Valid}
-use Rattle.encoding.specs.Refusals.{joined, setTests, leftOr}
+use Rattle.encoding.specs.Refusals.{setLines, leftOr}
 use Rattle.reduction.specs.Log.{pairs}
 use Rattle.reduction.specs.Checker.{verdict, working, badEntry, differs, notReduced, accepted}
 use Rattle.reduction.specs.Checker as checker
-use Rattle.encoding.specs.Ranks.{TableLine, line, byRank, numbered}
-use Rattle.terms.specs.Refused.{reduceTests, columnTwice, Reducible}
+use Rattle.encoding.specs.Ranks.{TableLine, line, byRank, joined}
+use Rattle.terms.specs.Refused.{reduceLines, Reducible}
 use Rattle.replay.specs.declared.Verdict.{Verdict}
 use Rattle.replay.specs.declared.Verdict.the-variants.{BadEntry, Differs, NotReduced, Yes, Refused}
 
@@ -39,21 +38,21 @@ claim log rows = record { log = log; rows = rows }
 
 -- ---- refusals
 
--- 1 to 5 of the claimed rows, "a set of the same n and m" (RULES 7.8): they are lent with the m of the call, so that another m is a length, 3
-abbrev pub claimTests : ℕ → Mem → List Bool
-claimTests n claimed = setTests n claimed
+-- what was to be reduced: 1 to 5 of the starting rows, then the order and the lists
+abbrev pub taskLines : Task → List TableLine
+taskLines T = reduceLines (T .n) (T .start) (T .order) (T .listed) (T .extra)
 
--- and 1 to 7 of what was to be reduced: the starting rows, the order, the lists
-abbrev pub checkTests : Task → Claim → List Bool
-checkTests T L = joined (reduceTests (T .n) (T .start) (T .order) (T .listed) (T .extra)) (claimTests (T .n) (L .rows))
+-- 1 to 5 of the claimed rows, "a set of the same n and m" (RULES 7.8): they are lent with the m of the call, so that another m is a length, 3
+abbrev pub claimLines : ℕ → Mem → List TableLine
+claimLines n claimed = setLines n claimed
 
 -- 9: a log of odd length
 abbrev pub oddLog : ℕ → TableLine
 oddLog units = line 9 (odd units)
 
--- by rank: 1 to 7, then 15, then 9
+-- by rank: both, then 9
 abbrev pub checkLines : Task → Claim → List TableLine
-checkLines T L = numbered 1 (checkTests T L) ++ (columnTwice (T .order) ∷ oddLog (length (L .log)) ∷ [])
+checkLines T L = joined (taskLines T) (claimLines (T .n) (L .rows)) ++ (oddLog (length (L .log)) ∷ [])
 
 abbrev pub checkFault : Task → Claim → ℕ
 checkFault T L = byRank (checkLines T L)

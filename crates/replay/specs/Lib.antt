@@ -1,5 +1,4 @@
 pub mod Check
 pub mod Demand
-pub mod Steps
 pub mod Undo
 pub mod Workers

@@ -11,8 +11,8 @@ use Rattle.encoding.specs.Refusals.{leftOr}
 use Rattle.reduction.specs.Rule.{Entry, mulAt}
 use Rattle.reduction.specs.Log.{pairs}
 use Rattle.reduction.specs.Checker.{firstBad}
-use Rattle.encoding.specs.Ranks.{TableLine, byRank, numbered}
-use Rattle.terms.specs.Refused.{reduceTests}
+use Rattle.encoding.specs.Ranks.{TableLine, byRank}
+use Rattle.terms.specs.Refused.{reduceLines}
 use Rattle.replay.specs.Check.{oddLog}
 use Rattle.replay.specs.declared.Undone.{Undone}
 use Rattle.replay.specs.declared.Undone.the-variants.{BadEntry, Done, Refused}
@@ -32,9 +32,9 @@ undo n σ (e ∷ es) = mulAt (mulInverse n) (undo n σ es) (e .target) (e .sourc
 
 -- ---- the call: rows, listed and extra rows, a log
 
--- by rank: 1 to 7 as the checker has them, of an order that names no column, so that there is no 15; then 9
+-- by rank: what the checker has, of an order that names no column, so that there is no 15; then 9
 abbrev pub undoLines : ℕ → Mem → List ℕ → List ℕ → List ℕ → List TableLine
-undoLines n M listed extra log = numbered 1 (reduceTests n M [] listed extra) ++ (oddLog (length log) ∷ [])
+undoLines n M listed extra log = reduceLines n M [] listed extra ++ (oddLog (length log) ∷ [])
 
 abbrev pub undoFault : ℕ → Mem → List ℕ → List ℕ → List ℕ → ℕ
 undoFault n M listed extra log = byRank (undoLines n M listed extra log)

@@ -8,7 +8,7 @@ ghost use Rattle.encoding.specs.Refusals.{some, tooLarge};
 ghost use Rattle.reduction.specs.Rule.{entry};
 ghost use Rattle.reduction.specs.Log.{pairs};
 ghost use Rattle.reduction.specs.Checker.{firstBad};
-ghost use Rattle.replay.specs.Steps.{Marked, goodBy, firstBadBy, placeOf};
+ghost use Rattle.replay.specs.Workers.{Marked, goodBy, firstBadBy, placeOf};
 use encoding::MAX_ROWS;
 
 // The marks of a row number: in neither list, extra, listed.

@@ -6,7 +6,7 @@ ghost use lib.Dec.{eqb};
 ghost use Rattle.encoding.specs.Lent.{lent, before, after};
 ghost use Rattle.encoding.specs.Ranks.{byRank, line};
 ghost use Rattle.replay.specs.Check.{task, claim, oddLog, checkFault, Passed, given, verdictOn, Checked};
-ghost use Rattle.replay.specs.Steps.{Judged};
+ghost use Rattle.replay.specs.Workers.{Judged};
 use encoding::pick;
 use encoding::set_fault;
 use encoding::smaller;

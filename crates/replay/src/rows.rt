@@ -9,7 +9,7 @@ ghost use Rattle.encoding.specs.Set.{row, rowsOf, Valid};
 ghost use Rattle.encoding.specs.Lent.{lent, before, after};
 ghost use Rattle.reduction.specs.Log.{pairs};
 ghost use Rattle.reduction.specs.Checker.{firstDiff};
-ghost use Rattle.replay.specs.Steps.{redone, placeOf};
+ghost use Rattle.replay.specs.Workers.{redone, placeOf};
 use pauli::RowNumber;
 use terms::rows::imul_unchecked;
 

@@ -1,16 +1,15 @@
 -- Words that hold the Paulis read so far: none at first, one more with each letter; at the end the first words of them are the row's. The row is put into
 -- its set: its words are what its Paulis pack to, and every other row's words are as they were.
-use Rattle.row_text.proofs.Kit.{_≡_, refl, sym, ap, ap₂, _∙_, subst, Bool, true, false, cond, false≢true, List, [], _∷_, _++_, ℕ, zero, suc, _+_, _*_, _-_, _^_, _<_, _≤_, arith, ℕ-discrete, decLt, eq-eqb, ne-eqb, length, getD, take, drop, set, length-set, List·getD-eq-default, ext-getD, getD-take, getD-set-same, getD-set-other, Pauli, I, X, Y, Z, hasX, hasZ, by}
+use Rattle.row_text.proofs.Kit.{_≡_, refl, sym, ap, ap₂, _∙_, subst, Bool, true, false, cond, false≢true, List, [], _∷_, ℕ, zero, suc, _+_, _*_, _-_, _<_, _≤_, arith, ℕ-discrete, eq-eqb, ne-eqb, length, getD, take, drop, set, length-set, ext-getD, getD-take, getD-set-same, getD-set-other, Pauli, I, X, Z, hasX, hasZ, by}
 use lib.ListN.{replicate}
-use lib.Seq.{length-take-le, getD-drop}
+use lib.Seq.{length-take-le}
 use borrow.Rule.Slice.PartMut.{putMid, put-same}
 use Rattle.pauli.specs.Row.{Row}
 use Rattle.encoding.specs.Limits.{maxQubits, maxWords, wordsOf}
-use Rattle.encoding.specs.Words.{unpack, qubits, withBit, join, pack}
+use Rattle.encoding.specs.Words.{qubits, join, pack}
 use Rattle.encoding.specs.Set.{part, row, Mem, memOf, count, exponentAt, rowsIn, layIn, within, QubitSet, Packed, Valid}
 use Rattle.encoding.specs.Refusals.{doneOr, leftOr}
 use Rattle.encoding.specs.declared.Answer.the-variants.{Done, Refused}
-use Rattle.encoding.proofs.WordLaws.{Fit}
 use Rattle.encoding.proofs.Padding.{pack-cut}
 use Rattle.encoding.proofs.Reading.{length-pack, qubits-pack}
 use Rattle.encoding.proofs.Memory.{clean-of}
@@ -22,7 +21,9 @@ use Rattle.cmpnt_list.specs.Workers.{RowAt}
 use Rattle.cmpnt_list.proofs.OneQubit.{set-packed}
 use Rattle.cmpnt_list.proofs.Views.{put-row, put-rest}
 use Rattle.row_text.specs.Text.{textOf, isText, rowOf}
-use Rattle.row_text.specs.Calls.{orElse, noText, withRow, ParseElem}
+use Rattle.row_text.specs.Calls.{withRow}
+use Rattle.row_text.specs.Workers.{noText}
+use Rattle.encoding.proofs.Faults.{orElse}
 use Rattle.row_text.specs.Workers.{letterOf, left, NextPauli, blank, Tells, a-row, no-row, Holding, LetterSet, Scanned, RowParsed}
 use Rattle.row_text.proofs.Rows.{text-read, read-text, row-long, no-text}
 use Rattle.row_text.proofs.Spelling.{one-row}
@@ -225,25 +226,25 @@ row-parsed n {M} v r s {a} {e} at {px} {pz} {ok} kx kz p = go ok (p .x-part) (p 
 
 -- ---- the call
 
-pub parse-refused : (n : ℕ) (M new : Mem) (t : List ℕ) {f g : ℕ} → f ≡ g → (f ≡ 0 → ⊥)
-    → (Refused f ≡ doneOr (orElse g (noText n t))) × (M ≡ leftOr (orElse g (noText n t)) M new)
-parse-refused n M new t {f} {g} e ne = subst (λ (k : ℕ). (Refused f ≡ doneOr (orElse k (noText n t))) × (M ≡ leftOr (orElse k (noText n t)) M new)) e (go f ne)
+pub parse-refused : (n : ℕ) (M new : Mem) (t : List ℕ) {f g o : ℕ} → o ≡ orElse g (noText n t) → f ≡ g → (f ≡ 0 → ⊥)
+    → (Refused f ≡ doneOr o) × (M ≡ leftOr o M new)
+parse-refused n M new t {f} {g} {o} i e ne = subst (λ (k : ℕ). (Refused f ≡ doneOr k) × (M ≡ leftOr k M new)) (ap (λ (k : ℕ). orElse k (noText n t)) e ∙ sym i) (go f ne)
   where
     go : (k : ℕ) → (k ≡ 0 → ⊥) → (Refused k ≡ doneOr (orElse k (noText n t))) × (M ≡ leftOr (orElse k (noText n t)) M new)
     go zero h = absurd (h refl)
     go (suc k) h = (refl, refl)
 
 -- no line above fits: taken, or 13
-pub parse-taken : (n : ℕ) (M new : Mem) (t : List ℕ) {M′ : Mem} {g : ℕ} {ok : Bool} → 0 ≡ g → ok ≡ true → ok ≡ isText n t → M′ ≡ cond ok new M
-    → (Done ≡ doneOr (orElse g (noText n t))) × (M′ ≡ leftOr (orElse g (noText n t)) M new)
-parse-taken n M new t {M′} {g} {ok} z e told rows =
+pub parse-taken : (n : ℕ) (M new : Mem) (t : List ℕ) {M′ : Mem} {g o : ℕ} {ok : Bool} → o ≡ orElse g (noText n t) → 0 ≡ g → ok ≡ true → ok ≡ isText n t → M′ ≡ cond ok new M
+    → (Done ≡ doneOr o) × (M′ ≡ leftOr o M new)
+parse-taken n M new t {M′} {g} {o} {ok} i z e told rows =
     let y : noText n t ≡ 0 = ap (λ (b : Bool). cond b 0 13) (sym told ∙ e) in
-    let o : orElse g (noText n t) ≡ 0 = ap (λ (k : ℕ). orElse k (noText n t)) (sym z) ∙ y in
-    (ap doneOr (sym o), rows ∙ (ap (λ (b : Bool). cond b new M) e ∙ ap (λ (k : ℕ). leftOr k M new) (sym o)))
+    let y₀ : o ≡ 0 = i ∙ ap (λ (k : ℕ). orElse k (noText n t)) (sym z) ∙ y in
+    (ap doneOr (sym y₀), rows ∙ (ap (λ (b : Bool). cond b new M) e ∙ ap (λ (k : ℕ). leftOr k M new) (sym y₀)))
 
-pub parse-no-text : (n : ℕ) (M new : Mem) (t : List ℕ) {M′ : Mem} {g : ℕ} {ok : Bool} → 0 ≡ g → ok ≡ false → ok ≡ isText n t → M′ ≡ cond ok new M
-    → (Refused 13 ≡ doneOr (orElse g (noText n t))) × (M′ ≡ leftOr (orElse g (noText n t)) M new)
-parse-no-text n M new t {M′} {g} {ok} z e told rows =
+pub parse-no-text : (n : ℕ) (M new : Mem) (t : List ℕ) {M′ : Mem} {g o : ℕ} {ok : Bool} → o ≡ orElse g (noText n t) → 0 ≡ g → ok ≡ false → ok ≡ isText n t → M′ ≡ cond ok new M
+    → (Refused 13 ≡ doneOr o) × (M′ ≡ leftOr o M new)
+parse-no-text n M new t {M′} {g} {o} {ok} i z e told rows =
     let y : noText n t ≡ 13 = ap (λ (b : Bool). cond b 0 13) (sym told ∙ e) in
-    let o : orElse g (noText n t) ≡ 13 = ap (λ (k : ℕ). orElse k (noText n t)) (sym z) ∙ y in
-    (ap doneOr (sym o), rows ∙ (ap (λ (b : Bool). cond b new M) e ∙ ap (λ (k : ℕ). leftOr k M new) (sym o)))
+    let y₀ : o ≡ 13 = i ∙ ap (λ (k : ℕ). orElse k (noText n t)) (sym z) ∙ y in
+    (ap doneOr (sym y₀), rows ∙ (ap (λ (b : Bool). cond b new M) e ∙ ap (λ (k : ℕ). leftOr k M new) (sym y₀)))

@@ -13,17 +13,10 @@ pub use lib.Dec.{eqb, ltb, leb}
 pub use lib.ListN.{length, getD, take, drop, set, length-append, length-set, length-drop, length-take, drop-of-length-le, List·getD-eq-default}
 pub use lib.Seq.{drop-cons, drop-drop, ext-getD, getD-take, getD-set-same, getD-set-other}
 pub use Rattle.pauli.specs.Pauli.{Pauli, hasX, hasZ}
+pub use Rattle.pauli.proofs.Bools.{and-left, and-right}
 pub use Rattle.pauli.specs.declared.PauliMatrix.the-variants.{I, X, Y, Z}
 
 -- cases on a test
 pub by : {A : Type 0} (P : A → Type 0) (b : Bool) {x y : A} → (b ≡ true → P x) → (b ≡ false → P y) → P (cond b x y)
 by P true f g = f refl
 by P false f g = g refl
-
-pub and-left : (a c : Bool) → (a && c) ≡ true → a ≡ true
-and-left true c e = refl
-and-left false c e = e
-
-pub and-right : (a c : Bool) → (a && c) ≡ true → c ≡ true
-and-right true c e = e
-and-right false c e = absurd (false≢true e)

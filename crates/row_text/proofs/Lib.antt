@@ -2,6 +2,7 @@ pub mod Kit
 pub mod Rows
 pub mod Spelling
 pub mod Sizes
+pub mod Lines
 pub mod Putting
 pub mod Scanning
 pub mod InRow

@@ -1,21 +1,23 @@
 -- RULES 15.6 to 15.8, from the contracts alone: what is written is read back, what was read is written, a text is the text of one row, and an output
 -- of the longest length is enough. A text settles its row since rows with the same text are the same (Spelling.one-row).
-use Rattle.row_text.proofs.Kit.{_≡_, refl, sym, ap, ap₂, _∙_, subst, Bool, true, false, cond, false≢true, List, _++_, ℕ, zero, suc, _+_, _*_, _<_, _≤_, arith, ℕ-discrete, leb-false, lt-leb, le-ltb, length, take, drop, Pauli}
+use Rattle.row_text.proofs.Kit.{_≡_, refl, sym, ap, ap₂, _∙_, subst, Bool, true, false, cond, List, _++_, ℕ, _*_, _<_, _≤_, arith, ℕ-discrete, leb-false, lt-leb, le-ltb, length, take, drop, Pauli}
 use lib.Seq.{take-at}
 use mathlib.Core.Path.{fun-ext}
 use Rattle.pauli.specs.Row.{Row}
 use Rattle.pauli.proofs.RowLaws.{row-eq}
 use Rattle.encoding.specs.Limits.{maxQubits, maxRows, wordsOf}
 use Rattle.encoding.specs.Set.{Mem, count, rowsOf, lay, Sound}
-use Rattle.encoding.specs.Refusals.{fault, setTests, numberTests, tooLarge, doneOr, leftOr}
+use Rattle.encoding.specs.Refusals.{tooLarge, doneOr, leftOr}
 use Rattle.encoding.specs.declared.Answer.{Answer}
 use Rattle.encoding.specs.declared.Answer.the-variants as answer
-use Rattle.encoding.proofs.Faults.{joined-fault, least-none, not-large, number-is}
 use Rattle.encoding.proofs.Memory.{Proper, read-lay, count-lay, valid-lay, lay-back, within-limits}
-use Rattle.encoding.proofs.Sets.{read-proper, read-passes}
+use Rattle.encoding.proofs.Sets.{read-proper, read-none, read-passes}
 use Rattle.cmpnt_list.specs.Calls.{rowFault}
 use Rattle.row_text.specs.Text.{textOf, isText, rowOf, longest}
-use Rattle.row_text.specs.Calls.{orElse, tooShort, lengthOr, TextWritten, fmtFault, FmtElem, noText, withRow, parseFault, ParseElem}
+use Rattle.row_text.specs.Calls.{lengthOr, fmtFault, FmtElem, withRow, parseFault, ParseElem}
+use Rattle.row_text.specs.Workers.{tooShort, noText}
+use Rattle.encoding.proofs.Faults.{orElse, or-none}
+use Rattle.row_text.proofs.Lines.{fmt-in-turn, parse-in-turn}
 use Rattle.row_text.specs.declared.Written.{Written}
 use Rattle.row_text.specs.declared.Written.the-variants as written
 use Rattle.row_text.proofs.Rows.{read-text, row-long}
@@ -24,10 +26,6 @@ use Rattle.row_text.proofs.Sizes.{at-most, all-x, long-all, as-long}
 use Rattle.row_text.proofs.InRow.{the-row, with-here, with-other, ps-here}
 
 -- ---- what no refusal tells
-
-or-none : (f g : ℕ) → orElse f g ≡ 0 → (f ≡ 0) × (g ≡ 0)
-or-none zero g e = (refl, e)
-or-none (suc f) g e = absurd (omega arith)
 
 text-taken : (n : ℕ) (t : List ℕ) → noText n t ≡ 0 → isText n t ≡ true
 text-taken n t e = go (isText n t) e
@@ -45,12 +43,12 @@ record Row-of (n : ℕ) (M : Mem) (r : ℕ) : Type 0 where
 
 row-of : (n : ℕ) (M : Mem) (r : ℕ) → rowFault n M r ≡ 0 → Row-of n M r
 row-of n M r e =
-    let p = least-none (fault (setTests n M)) (fault (numberTests (tooLarge (count M) r))) (joined-fault (setTests n M) (numberTests (tooLarge (count M) r)) ∙ e) in
+    let p = read-none n M (tooLarge (count M) r) e in
     record {
       few = within-limits n M (p .0) .0;
       few-rows = within-limits n M (p .0) .1;
       proper = read-proper n M (p .0);
-      there = leb-false (count M) r (not-large 5 (tooLarge (count M) r) (number-is (tooLarge (count M) r) ∙ p .1));
+      there = leb-false (count M) r (p .1);
     }
 
 -- what stands in the output behind a call that is not refused
@@ -84,11 +82,11 @@ pub written-read : (n : ℕ) (M : Mem) (r : ℕ) (out : List ℕ) {out′ : List
 written-read n M r out {out′} {a} {N} {N′} {q} {b} w e f p =
     let ps = rowsOf n M r .ps in
     let t = textOf ps in
-    let m = row-of n M r (or-none (rowFault n M r) (tooShort ps out) e .0) in
+    let m = row-of n M r (or-none (rowFault n M r) (tooShort ps out) (sym (fmt-in-turn n M r out) ∙ e) .0) in
     let k = row-of n N q f in
     let d = the-row n (m .few) t ps (m .proper .long r (m .there)) refl in
     let p′ : ParseElem n N q t N′ b = subst (λ (s : List ℕ). ParseElem n N q s N′ b) (the-text n M r out w e .1) p in
-    let z : parseFault n N q t ≡ 0 = ap (λ (j : ℕ). orElse j (noText n t)) f ∙ ap (λ (c : Bool). cond c 0 13) (d .0) in
+    let z : parseFault n N q t ≡ 0 = parse-in-turn n N q t ∙ ap (λ (j : ℕ). orElse j (noText n t)) f ∙ ap (λ (c : Bool). cond c 0 13) (d .0) in
     let s = taken p′ z in
     (s .0, ap (λ (L : Mem). rowsOf n L q .ps) (s .1) ∙ (new-row n N q t (k .there) (k .proper .small q (k .there)) ∙ d .1))
 
@@ -97,7 +95,7 @@ pub read-written : {n : ℕ} {M M′ : Mem} {r : ℕ} {t : List ℕ} {b : Answer
     → ParseElem n M r t M′ b → parseFault n M r t ≡ 0 → FmtElem n M′ r out out′ a → fmtFault n M′ r out ≡ 0
     → (a ≡ written.Length (length t)) × (take (length t) out′ ≡ t)
 read-written {n} {M} {M′} {r} {t} {b} {out} {out′} {a} p e w f =
-    let o = or-none (rowFault n M r) (noText n t) e in
+    let o = or-none (rowFault n M r) (noText n t) (sym (parse-in-turn n M r t) ∙ e) in
     let m = row-of n M r (o .0) in
     let s = taken p e in
     let x : rowsOf n M′ r .ps ≡ rowOf n t = ap (λ (L : Mem). rowsOf n L r .ps) (s .1) ∙ new-row n M r t (m .there) (m .proper .small r (m .there)) in
@@ -127,7 +125,7 @@ with-proper n m σ r t p h = record { long = λ k l. long k l (ℕ-discrete k r)
 pub read-again : {n : ℕ} {M M′ M″ : Mem} {r : ℕ} {t : List ℕ} {a b : Answer} → ParseElem n M r t M′ a → parseFault n M r t ≡ 0 → ParseElem n M′ r t M″ b
     → (b ≡ answer.Done) × (M″ ≡ M′)
 read-again {n} {M} {M′} {M″} {r} {t} {a} {b} p e q =
-    let o = or-none (rowFault n M r) (noText n t) e in
+    let o = or-none (rowFault n M r) (noText n t) (sym (parse-in-turn n M r t) ∙ e) in
     let m = row-of n M r (o .0) in
     let w = wordsOf n in
     let σ = withRow (rowsOf n M) r (rowOf n t) in
@@ -142,7 +140,7 @@ read-again {n} {M} {M′} {M″} {r} {t} {a} {b} p e q =
     let sound′ : Sound n M′ = subst (Sound n) (sym (s .1)) sound in
     let there : r < count M′ = subst (λ (k : ℕ). r < k) (sym (ap count (s .1) ∙ count-lay n w (count M) σ wide)) (m .there) in
     let f : rowFault n M′ r ≡ 0 = read-passes n M′ sound′ (tooLarge (count M′) r) (lt-leb (count M′) r there) in
-    let g : parseFault n M′ r t ≡ 0 = ap₂ orElse f (o .1) in
+    let g : parseFault n M′ r t ≡ 0 = parse-in-turn n M′ r t ∙ ap₂ orElse f (o .1) in
     let x : rowsOf n M′ r .ps ≡ rowOf n t = ap (λ (L : Mem). rowsOf n L r .ps) (s .1) ∙ new-row n M r t (m .there) (m .proper .small r (m .there)) in
     let k = taken q g in
     (k .0, k .1 ∙ (ap (lay n (count M′)) (with-same (rowsOf n M′) r (rowOf n t) x) ∙ lay-back n w (sound′ .valid)))
@@ -165,7 +163,7 @@ never-short n M r out e h =
     let m = row-of n M r e in
     let l : length ps ≡ n = m .proper .long r (m .there) in
     let k : length (textOf ps) ≤ longest n = subst (λ (j : ℕ). length (textOf ps) ≤ longest j) l (at-most ps (omega (arith, m .few))) in
-    ap (λ (j : ℕ). orElse j (tooShort ps out)) e ∙ ap (λ (c : Bool). cond c 14 0) (le-ltb (length out) (length (textOf ps)) (fit k h))
+    fmt-in-turn n M r out ∙ ap (λ (j : ℕ). orElse j (tooShort ps out)) e ∙ ap (λ (c : Bool). cond c 14 0) (le-ltb (length out) (length (textOf ps)) (fit k h))
   where
     fit : {a b c : ℕ} → a ≤ b → b ≤ c → a ≤ c
     fit h k = omega arith

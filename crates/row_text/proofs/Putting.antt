@@ -1,6 +1,6 @@
 -- The loops over a row's qubits. What is still to come behind what was measured, or written, is the whole: a step takes one piece off it and goes on to
 -- the next qubit, or past a word that holds I alone.
-use Rattle.row_text.proofs.Kit.{_≡_, refl, sym, ap, ap₂, _∙_, subst, Bool, true, false, cond, List, [], _∷_, _++_, append-assoc, append-nil, ℕ, zero, suc, _+_, _*_, _-_, _/_, _%_, _^_, _<_, _≤_, arith, add-one, add-zero, zero-add, decLt, eqb, ltb, lt-ltb, le-ltb, eq-eqb, ne-eqb, le-leb, length, getD, take, drop, length-append, length-drop, length-take, drop-of-length-le, List·getD-eq-default, drop-cons, getD-take, Pauli, I, X, Y, Z}
+use Rattle.row_text.proofs.Kit.{_≡_, refl, sym, ap, ap₂, _∙_, subst, Bool, true, false, cond, List, [], _∷_, _++_, append-assoc, append-nil, ℕ, zero, suc, _+_, _*_, _-_, _/_, _%_, _^_, _<_, _≤_, arith, add-one, add-zero, zero-add, decLt, eqb, ltb, lt-ltb, le-ltb, eq-eqb, ne-eqb, le-leb, length, getD, take, drop, length-append, length-drop, length-take, drop-of-length-le, List·getD-eq-default, drop-cons, getD-take, Pauli, I}
 use native.Mathlib.Nat.{zero-div}
 use Rattle.pauli.specs.Pauli.{ofBits}
 use Rattle.encoding.specs.Words.{odd, bitAt, unpack, qubits}
@@ -9,7 +9,9 @@ use Rattle.text.specs.Readers.{over, Wrote}
 use Rattle.text.proofs.Adding.{length-over, over-append}
 use Rattle.text.proofs.Writing.{over-none}
 use Rattle.row_text.specs.Text.{spell, spaced, textOf}
-use Rattle.row_text.specs.Calls.{orElse, tooShort, lengthOr, TextWritten}
+use Rattle.row_text.specs.Calls.{lengthOr, TextWritten}
+use Rattle.row_text.specs.Workers.{tooShort}
+use Rattle.encoding.proofs.Faults.{orElse}
 use Rattle.row_text.specs.Workers.{letter, short, piece, pieceAt, Puts, NoneFrom, Steps}
 use Rattle.row_text.specs.declared.Written.the-variants.{Length, Refused}
 use Rattle.encoding.specs.Refusals.{leftOr}

@@ -1,6 +1,6 @@
 -- Some row of n qubits passes a test exactly when one does, and the row that is taken does. So a text that is read is the text of its row.
 -- By going through the Paulis of the first qubit. Assumes nothing.
-use Rattle.row_text.proofs.Kit.{_≡_, refl, sym, ap, ap₂, _∙_, Bool, true, false, cond, _||_, _&&_, false≢true, List, [], _∷_, ℕ, zero, suc, eqb, eqb-true, eq-eqb, length, Pauli, I, X, Y, Z, by, and-left, and-right}
+use Rattle.row_text.proofs.Kit.{_≡_, refl, ap, ap₂, _∙_, Bool, true, false, _||_, _&&_, false≢true, List, [], _∷_, ℕ, zero, suc, eqb, eqb-true, eq-eqb, length, Pauli, I, X, Y, Z, by, and-left, and-right}
 use Rattle.row_text.specs.Text.{anyRow, theRow, same, textOf, isText, rowOf}
 
 or-true : (a : Bool) → (a || true) ≡ true

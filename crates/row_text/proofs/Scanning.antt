@@ -1,13 +1,13 @@
 -- The reader's loop. The Paulis of the qubits before q are read: written, with what is left of the text behind them, they are the whole text, and every
 -- row that has this text starts with them. A piece takes both on, since a text falls into its pieces in one way; where none comes next no row has the text.
-use Rattle.row_text.proofs.Kit.{_≡_, refl, sym, ap, ap₂, _∙_, subst, Bool, true, false, cond, not, _&&_, false≢true, List, [], _∷_, _++_, append-assoc, append-nil, ℕ, zero, suc, _+_, _*_, _-_, _^_, _<_, _≤_, arith, add-one, add-zero, zero-add, eqb, ltb, leb, eq-eqb, ne-eqb, le-leb, lt-ltb, leb-true, ltb-true, eqb-true, length, getD, take, drop, set, length-append, length-drop, length-set, drop-of-length-le, drop-cons, drop-drop, Pauli, I, X, Y, Z, hasX, hasZ, and-left, and-right}
-use Rattle.encoding.specs.Limits.{maxQubits, maxWords}
+use Rattle.row_text.proofs.Kit.{_≡_, refl, sym, ap, ap₂, _∙_, Bool, true, false, cond, _&&_, false≢true, List, [], _∷_, _++_, append-assoc, append-nil, ℕ, zero, suc, _+_, _-_, _^_, _<_, _≤_, arith, add-one, eqb, ltb, leb, ne-eqb, le-leb, lt-ltb, leb-true, ltb-true, eqb-true, length, getD, drop, set, length-append, length-drop, drop-of-length-le, drop-cons, drop-drop, Pauli, I, and-left, and-right}
+use Rattle.encoding.specs.Limits.{maxQubits}
 use Rattle.encoding.specs.Refusals.{isOn}
 use Rattle.text.specs.Readers.{Got, none, got, answer, starts, Reads}
-use Rattle.text.specs.Numbers.{numeral, canonical, Stops}
-use Rattle.row_text.specs.Text.{spell, spaced, textOf}
-use Rattle.row_text.specs.Workers.{letter, letterOf, past, paired, lettered, named, NamedBy, lead, left, Found, NextPauli, Tells, a-row, no-row, blank}
-use Rattle.row_text.proofs.Spelling.{letter-only, spell-on, none-got, same-value, length-blank, spaced-blank, spaced-append, spaced-stops, lead-of, unlead, leads, led-text, led-short, named-back, named-only, begins}
+use Rattle.text.specs.Numbers.{canonical}
+use Rattle.row_text.specs.Text.{spell, spaced}
+use Rattle.row_text.specs.Workers.{letterOf, past, paired, lettered, named, NamedBy, lead, left, Found, NextPauli, Tells, a-row, no-row, blank}
+use Rattle.row_text.proofs.Spelling.{spell-on, none-got, same-value, length-blank, spaced-blank, spaced-append, spaced-stops, lead-of, unlead, leads, led-text, led-short, named-back, named-only, begins}
 
 -- ---- a place of a text
 

@@ -1,7 +1,7 @@
 -- How long texts are: the digits of a qubit's number by its size, and the longest text by adding up over the qubits. Each Pauli takes at most the
 -- piece of its qubit, and all of it where it is not I.
-use Rattle.row_text.proofs.Kit.{_≡_, refl, sym, ap, _∙_, subst, zero-add, List, [], _∷_, _++_, ℕ, zero, suc, _+_, _*_, _-_, _/_, _<_, _≤_, arith, decLt, length, drop, length-append, length-drop, Pauli, I, X, Y, Z}
-use Rattle.text.specs.Numbers.{size, numeral}
+use Rattle.row_text.proofs.Kit.{_≡_, refl, sym, ap, _∙_, subst, zero-add, List, [], _∷_, ℕ, zero, suc, _+_, _*_, _-_, _/_, _<_, _≤_, arith, decLt, length, length-append, length-drop, Pauli, I, X, Y, Z}
+use Rattle.text.specs.Numbers.{numeral}
 use Rattle.text.proofs.Writing.{size-small, size-more, length-numeral}
 use Rattle.row_text.specs.Text.{spell, spaced, textOf, longest}
 

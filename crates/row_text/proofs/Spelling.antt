@@ -1,8 +1,8 @@
 -- A piece of a text, a space, a letter and a number, is read back, and what is read is such a piece: a letter says its Pauli, and a canonical
 -- number its qubit. So a text falls into its pieces in one way, and rows of n qubits that have the same text are the same.
-use Rattle.row_text.proofs.Kit.{_≡_, refl, sym, ap, ap₂, _∙_, subst, Bool, true, false, cond, _||_, false≢true, List, [], _∷_, _++_, append-assoc, ℕ, zero, suc, _+_, _^_, _<_, _≤_, arith, eqb, ltb, eqb-true, eq-eqb, ne-eqb, add-zero, length, drop, Pauli, I, X, Y, Z}
+use Rattle.row_text.proofs.Kit.{_≡_, refl, sym, ap, ap₂, _∙_, subst, Bool, true, false, cond, _||_, false≢true, List, [], _∷_, _++_, append-assoc, ℕ, zero, suc, _+_, _^_, _<_, _≤_, arith, eqb, eqb-true, eq-eqb, ne-eqb, add-zero, length, drop, Pauli, I, X, Y, Z}
 use Rattle.encoding.specs.Refusals.{isOn}
-use Rattle.text.specs.Readers.{Got, none, got, starts}
+use Rattle.text.specs.Readers.{Got, none, got}
 use Rattle.text.specs.Numbers.{digitOf, numeral, canonical, Stops}
 use Rattle.text.proofs.OneText.{canonical-only, canonical-back}
 use Rattle.row_text.specs.Text.{spell, spaced, textOf}

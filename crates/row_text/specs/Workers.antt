@@ -3,7 +3,7 @@ use mathlib.Core.Path.{_≡_}
 use mathlib.Core.Bool.{Bool, true, false, cond}
 use mathlib.Core.List.{List, [], _∷_, _++_}
 use Prim.Native.Nat.{ℕ, zero, suc, _+_, _<_, _≤_}
-use lib.Dec.{eqb}
+use lib.Dec.{eqb, ltb}
 use lib.ListN.{length, getD, drop}
 use Rattle.pauli.specs.Pauli.{Pauli, hasX, hasZ}
 use Rattle.pauli.specs.declared.PauliMatrix.the-variants.{I, X, Y, Z}
@@ -138,3 +138,11 @@ pub record RowParsed (n : ℕ) (s xs zs xs′ zs′ : List ℕ) (ok : Bool) : Ty
 pub record SetParsed (n : ℕ) (M : Mem) (r : ℕ) (s : List ℕ) (M′ : Mem) (ok : Bool) : Type 0 where
   pub told : ok ≡ isText n s
   pub rows : M′ ≡ cond ok (lay n (count M) (withRow (rowsOf n M) r (rowOf n s))) M
+
+-- ---- the numbers of the two lines
+
+abbrev pub tooShort : List Pauli → List ℕ → ℕ
+tooShort ps out = cond (ltb (length out) (length (textOf ps))) 14 0
+
+abbrev pub noText : ℕ → List ℕ → ℕ
+noText n t = cond (isText n t) 0 13

@@ -11,7 +11,8 @@ ghost use Rattle.encoding.specs.Set.{rowsOf, Sound};
 ghost use Rattle.encoding.specs.Lent.{lent, before};
 ghost use Rattle.cmpnt_list.specs.Workers.{RowAt};
 ghost use Rattle.row_text.specs.Text.{spaced, textOf};
-ghost use Rattle.row_text.specs.Calls.{tooShort, TextWritten, FmtElem};
+ghost use Rattle.row_text.specs.Calls.{TextWritten, FmtElem};
+ghost use Rattle.row_text.specs.Workers.{tooShort};
 ghost use Rattle.row_text.specs.Workers.{letter as Workers·letter, short, piece, pieceAt, Puts, NoneFrom, Steps};
 use crate::Written;
 use pauli::PauliMatrix;
@@ -248,7 +249,7 @@ pub fn fmt_elem(
 ) -> Written
     ensures { λ a. ⌜ FmtElem n (before m x z phases) (row .0) (now (out .entry)) (now (out .exit)) a ⌝ }
 {
-    let f = cmpnt_list::row_fault(n, m, x, z, phases, m <= row.0);
+    let f = encoding::row_fault(n, m, x, z, phases, m <= row.0);
     if f != 0 {
         return Written::Refused(f);
     }

@@ -206,7 +206,7 @@ pub fn parse_elem(
     ensures { λ a. ⌜ ParseElem n (before m x z phases) (row .0) (now (text .entry))
         (after m x z phases) a ⌝ }
 {
-    let f = cmpnt_list::row_fault(n, m, x, z, phases, m <= row.0);
+    let f = encoding::row_fault(n, m, x, z, phases, m <= row.0);
     if f != 0 {
         return Answer::Refused(f);
     }

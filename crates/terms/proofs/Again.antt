@@ -10,7 +10,8 @@ use Rattle.pauli.specs.Rows.{clashesOf}
 use Rattle.encoding.specs.Limits.{wordsOf}
 use Rattle.encoding.specs.Words.{pack}
 use Rattle.encoding.specs.Set.{row, Mem, count, rowsOf, lay, layIn, Valid}
-use Rattle.encoding.specs.Refusals.{fault, setTests, rowsTests, leftOr}
+use Rattle.encoding.specs.Refusals.{setLines, rowsLines, leftOr}
+use Rattle.encoding.specs.Ranks.{byRank}
 use Rattle.encoding.proofs.WordLaws.{Fit, xors}
 use Rattle.encoding.proofs.Parts.{row-lay-list}
 use Rattle.encoding.proofs.Memory.{valid-of, within-limits}
@@ -24,19 +25,19 @@ use Rattle.terms.proofs.Meaning.{given}
 use Rattle.terms.proofs.Finished.{proper-mul}
 
 module _ (n a b : ℕ) {M M′ : Mem} {d : ℕ} (c : Multiplies n a b M M′ (clash.Number d)) where
-  none-fits : fault (rowsTests n M a b) ≡ 0
-  none-fits = given (fault (rowsTests n M a b)) (clashesOf n (rowsOf n M a) (rowsOf n M b)) d (sym (c .answer)) .0
+  none-fits : byRank (rowsLines n M a b) ≡ 0
+  none-fits = given (byRank (rowsLines n M a b)) (clashesOf n (rowsOf n M a) (rowsOf n M b)) d (sym (c .answer)) .0
 
-  both : (fault (setTests n M) ≡ 0) × (a < count M) × (b < count M)
+  both : (byRank (setLines n M) ≡ 0) × (a < count M) × (b < count M)
   both = rows-in n M a b none-fits
 
   laid : M′ ≡ lay n (count M) (mulAt (mulRow n) (rowsOf n M) a b)
   laid = c .rows ∙ ap (λ (f : ℕ). leftOr f M (lay n (count M) (mulAt (mulRow n) (rowsOf n M) a b))) none-fits
 
-  pub imul-again : fault (setTests n M′) ≡ 0
+  pub imul-again : byRank (setLines n M′) ≡ 0
   imul-again =
       let l = within-limits n M (both .0) in
-      ap (λ (N : Mem). fault (setTests n N)) laid ∙ lay-passes n (count M) (mulAt (mulRow n) (rowsOf n M) a b) (l .0) (l .1) (proper-mul a b (both .1) (both .2) (read-proper n M (both .0)))
+      ap (λ (N : Mem). byRank (setLines n N)) laid ∙ lay-passes n (count M) (mulAt (mulRow n) (rowsOf n M) a b) (l .0) (l .1) (proper-mul a b (both .1) (both .2) (read-proper n M (both .0)))
 
   module _ (fx : Fit (M .xs)) (fz : Fit (M .zs)) (fe : Fit (M .es)) where
     valid : Valid n (wordsOf n) M

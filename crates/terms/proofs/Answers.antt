@@ -4,8 +4,8 @@ use Prim.Native.Nat.{ℕ, zero, suc, _+_, _-_, _/_, _<_, _≤_}
 use native.Mathlib.Decide.{ℕ-discrete}
 use native.Mathlib.Omega.{arith}
 use mathlib.Core.Path.{_≡_, refl, sym, ap, ap₂, _∙_, subst}
-use mathlib.Core.Bool.{Bool, true, false, cond, _||_}
-use mathlib.Core.List.{List, [], _∷_}
+use mathlib.Core.Bool.{true, false, _||_}
+use mathlib.Core.List.{List, []}
 use lib.Arith.{lt-of-le-ne}
 use lib.ListN.{length, getD, take, set}
 use lib.Seq.{length-take-le, ext-getD, getD-take, getD-set-same, getD-set-other}
@@ -13,9 +13,9 @@ use borrow.Author.Tests.{leb-false}
 use Rattle.pauli.specs.Row.{Row, mulRow, bitRow}
 use Rattle.encoding.specs.Limits.{maxQubits, maxRows, wordsOf}
 use Rattle.encoding.specs.Set.{Mem, count, rowsOf, lay, Valid, Sound}
-use Rattle.encoding.specs.Refusals.{faultFrom, fault, joined, least, tooLarge, setTests, numberTests, leftOr, rowsTests}
+use Rattle.encoding.specs.Refusals.{tooLarge, setLines, rowsLines, Readable, leftOr}
 use Rattle.encoding.proofs.Scan.{none-of}
-use Rattle.encoding.proofs.Faults.{both-parts, least-none, not-large, number-is, refusing, orElse, or-first}
+use Rattle.encoding.proofs.Faults.{refusing, orElse, or-first}
 use Rattle.encoding.proofs.Memory.{laid}
 use Rattle.encoding.proofs.Sets.{sound-of}
 use Rattle.encoding.proofs.Parts.{length-list, getD-list}
@@ -30,64 +30,35 @@ use Rattle.late.specs.declared.Progress.{Progress}
 use Rattle.terms.specs.declared.Canonicalized.{Canonicalized}
 use Rattle.terms.specs.declared.Canonicalized.the-variants.{Done, Full, Refused}
 use Rattle.encoding.specs.Ranks.{byRank}
-use Rattle.terms.specs.Refused.{listTests, reduceTests, columnTwice, listLines, reduceFault, Reducible}
+use Rattle.terms.specs.Refused.{listLines, reduceFault, Reducible}
 use Rattle.pauli.specs.Rows.{clashesOf}
 use Rattle.terms.specs.declared.Clashes.the-variants as clash
-use Rattle.terms.specs.Leaves.{mulIn, clashesIn}
-use Rattle.terms.specs.Work.{Below, runOf, outcome, start, Does, BothIn, ListsIn}
+use Rattle.terms.specs.Workers.{mulIn, clashesIn, Below, runOf, outcome, start, Does, ListsIn}
 use Rattle.terms.specs.Calls.{clashesOr, Multiplies, answerOf, numberFor, rowsLeft, entriesLeft, Leaves, outcomeOf, wholeOutcome, upTo}
-use Rattle.encoding.proofs.Ranks.{ranked}
-use Rattle.terms.proofs.Scans.{no-line, asked-of, once-of}
+use Rattle.encoding.proofs.Ranks.{rank-append}
+use Rattle.terms.proofs.Scans.{asked-of, order-once}
 use Rattle.terms.proofs.RowView.{mul-view, clashes-view}
 
 -- ---- what no refusal leaves
 
--- a number of five tests comes before those of a list that begins with the sixth
-before-six : (a b c d e : Bool) (us : List Bool) {f : ℕ} → f ≡ fault (a ∷ b ∷ c ∷ d ∷ e ∷ []) → (f ≡ 0 → ⊥)
-    → f ≡ fault (joined (a ∷ b ∷ c ∷ d ∷ e ∷ []) (false ∷ false ∷ false ∷ false ∷ false ∷ us))
-unfolding faultFrom joined
-before-six true b c d e us p ne = p
-before-six false true c d e us p ne = p
-before-six false false true d e us p ne = p
-before-six false false false true e us p ne = p
-before-six false false false false true us p ne = p
-before-six false false false false false us p ne = absurd (ne p)
+-- the set's number comes before those of the lists
+module _ (n : ℕ) (M : Mem) {f : ℕ} (ef : f ≡ byRank (setLines n M)) (v : f ≡ 0 → Valid n (wordsOf n) M) (order listed extra : List ℕ) where
+  by-parts : orElse f (byRank (listLines n (count M) order listed extra)) ≡ reduceFault n M order listed extra
+  by-parts =
+      ap (λ k. orElse k (byRank (listLines n (count M) order listed extra))) ef
+      ∙ sym (rank-append (setLines n M) (listLines n (count M) order listed extra) refl)
 
-module _ (n : ℕ) (M : Mem) {f : ℕ} (ef : f ≡ fault (setTests n M)) (v : f ≡ 0 → Valid n (wordsOf n) M) where
-  pub imul-told : (a b : ℕ) (g r : ℕ) → g ≡ cond (tooLarge (count M) a || tooLarge (count M) b) 6 0 → r ≡ least f g
-      → (r ≡ fault (rowsTests n M a b)) × (r ≡ 0 → BothIn n a b M)
-  imul-told a b g r eg er =
-      let large = tooLarge (count M) a || tooLarge (count M) b in (
-        both-parts (setTests n M) (numberTests large) ef (eg ∙ number-is large) er,
-        λ z.
-            let p = least-none f g (sym er ∙ z) in
-            let q = none-of (tooLarge (count M) a) (tooLarge (count M) b) (not-large 5 large (sym eg ∙ p .1)) in
-            record { sound = sound-of n M ef v (p .0); a-in = leb-false (count M) a (q .0); b-in = leb-false (count M) b (q .1) },
-      )
+  pub reduce-first : (f ≡ 0 → ⊥) → (f ≡ reduceFault n M order listed extra) × (f ≡ 0 → Reducible n order listed extra M)
+  reduce-first ne = (sym (or-first f (byRank (listLines n (count M) order listed extra)) ne) ∙ by-parts, λ z. absurd (ne z))
 
-  -- the set's number comes before those of the lists
-  module _ (order listed extra : List ℕ) where
-    -- 15, or 0
-    late : ℕ
-    late = byRank (columnTwice order ∷ [])
-
-    by-parts : {h : ℕ} → h ≡ fault (reduceTests n M order listed extra) → orElse h late ≡ reduceFault n M order listed extra
-    unfolding late
-    by-parts e = ap (λ k. orElse k late) e ∙ sym (ranked 0 (reduceTests n M order listed extra) (columnTwice order ∷ []))
-
-    pub reduce-first : (f ≡ 0 → ⊥) → (f ≡ reduceFault n M order listed extra) × (f ≡ 0 → Reducible n order listed extra M)
-    reduce-first ne = (sym (or-first f late ne) ∙ by-parts (before-six _ _ _ _ _ _ ef ne), λ z. absurd (ne z))
-
-    pub reduce-told : (g : ℕ) → f ≡ 0 → g ≡ byRank (listLines n (count M) order listed extra)
-        → (g ≡ reduceFault n M order listed extra) × (g ≡ 0 → Reducible n order listed extra M)
-    unfolding least late
-    reduce-told g z eg =
-        let ts = listTests n (count M) order listed extra in (
-          eg ∙ ranked 0 ts (columnTwice order ∷ []) ∙ by-parts (both-parts (setTests n M) ts ef refl (ap (λ k. least k (fault ts)) (sym z))),
-          λ e.
-              let no = no-line n (count M) order listed extra (sym eg ∙ e) in
-              record { sound = sound-of n M ef v z; asked = asked-of n (count M) order listed extra (no .0); columns-once = once-of order (no .1) },
-        )
+  pub reduce-told : (g : ℕ) → f ≡ 0 → g ≡ byRank (listLines n (count M) order listed extra)
+      → (g ≡ reduceFault n M order listed extra) × (g ≡ 0 → Reducible n order listed extra M)
+  reduce-told g z eg = (
+    eg ∙ sym (ap (λ k. orElse k (byRank (listLines n (count M) order listed extra))) z) ∙ by-parts,
+    λ e.
+        let q = sym eg ∙ e in
+        record { sound = sound-of n M ef v z; asked = asked-of n (count M) order listed extra q; columns-once = order-once n (count M) order listed extra q },
+  )
 
 -- the numbers of the lists by their places
 pub lists-in : {n : ℕ} {order listed extra : List ℕ} {M : Mem} → Reducible n order listed extra M → ListsIn n order listed extra M
@@ -102,19 +73,22 @@ lists-in {n} {order} {listed} {extra} {M} r =
 -- ---- the product of two rows
 
 module _ (n a b : ℕ) (M : Mem) where
-  pub imul-refused : {f : ℕ} → f ≡ fault (rowsTests n M a b) → (f ≡ 0 → ⊥) → Multiplies n a b M M (clash.Refused f)
+  pub imul-refused : {f : ℕ} → f ≡ byRank (rowsLines n M a b) → (f ≡ 0 → ⊥) → Multiplies n a b M M (clash.Refused f)
   imul-refused e ne =
       record {
         answer = refusing clash.Refused (λ k. clashesOr k (clashesOf n (rowsOf n M a) (rowsOf n M b))) (λ k. refl) e ne;
         rows = refusing (λ k. M) (λ k. leftOr k M (lay n (count M) (mulAt (mulRow n) (rowsOf n M) a b))) (λ k. refl) e ne;
       }
 
-  pub imul-done : {f c : ℕ} {M′ : Mem} → f ≡ fault (rowsTests n M a b) → f ≡ 0 → BothIn n a b M → (M′ ≡ mulIn n a b M) × (c ≡ clashesIn n a b M)
-      → Multiplies n a b M M′ (clash.Number c)
+  pub imul-done : {f c : ℕ} {M′ : Mem} → f ≡ byRank (rowsLines n M a b) → f ≡ 0 → Readable n M (tooLarge (count M) a || tooLarge (count M) b)
+      → (M′ ≡ mulIn n a b M) × (c ≡ clashesIn n a b M) → Multiplies n a b M M′ (clash.Number c)
   imul-done {f} {c} {M′} e z h q =
+      let p = none-of (tooLarge (count M) a) (tooLarge (count M) b) (h .small) in
+      let a-in = leb-false (count M) a (p .0) in
+      let b-in = leb-false (count M) b (p .1) in
       record {
-        answer = ap clash.Number (q .1 ∙ clashes-view (h .sound) a b (h .a-in) (h .b-in)) ∙ ap (λ k. clashesOr k (clashesOf n (rowsOf n M a) (rowsOf n M b))) (sym z ∙ e);
-        rows = q .0 ∙ mul-view (h .sound) a b (h .a-in) (h .b-in) .laid-out ∙ ap (λ k. leftOr k M (lay n (count M) (mulAt (mulRow n) (rowsOf n M) a b))) (sym z ∙ e);
+        answer = ap clash.Number (q .1 ∙ clashes-view (h .ready) a b a-in b-in) ∙ ap (λ k. clashesOr k (clashesOf n (rowsOf n M a) (rowsOf n M b))) (sym z ∙ e);
+        rows = q .0 ∙ mul-view (h .ready) a b a-in b-in .laid-out ∙ ap (λ k. leftOr k M (lay n (count M) (mulAt (mulRow n) (rowsOf n M) a b))) (sym z ∙ e);
       }
 
 -- ---- reduction

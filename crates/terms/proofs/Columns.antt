@@ -4,22 +4,18 @@ use mathlib.Core.Path.{_≡_, refl, sym, ap, ap₂, _∙_}
 use mathlib.Core.Bool.{Bool, true, false, cond, _&&_}
 use mathlib.Core.List.{List}
 use Prim.Native.Nat.{ℕ, _+_, _-_, _*_, _/_, _%_, _^_, _≤_, _<_}
-use native.Mathlib.Nat.{mul-le-mul-right}
 use native.Mathlib.Omega.{arith}
 use borrow.Author.Tests.{le-leb, lt-leb, lt-ltb, le-ltb}
 use lib.Dec.{leb, ltb}
 use lib.ListN.{length, getD, drop, length-take}
-use Rattle.encoding.specs.Limits.{maxQubits, maxRows, maxWords, wordsOf}
+use Rattle.encoding.specs.Limits.{maxQubits, maxRows, wordsOf}
 use Rattle.encoding.specs.Words.{odd, bitAt}
 use Rattle.encoding.specs.Set.{row}
 use Rattle.encoding.proofs.Parts.{getD-part}
 use Rattle.encoding.proofs.Qubits.{no-bit}
-use Rattle.terms.specs.Leaves.{columnOf, bitIn}
+use Rattle.terms.specs.Workers.{columnOf, bitIn}
 
 -- ---- bit q of row k
-
-pub small-start : (k w : ℕ) → k < maxRows → w ≤ maxWords → k * w ≤ maxRows * maxWords
-small-start k w h g = omega (arith, mul-le-mul-right w h)
 
 row-short : (w k : ℕ) (xs : List ℕ) → length (row w k xs) ≤ w
 row-short w k xs = omega (arith, length-take (k * w + w - k * w) (drop (k * w) xs))

@@ -6,7 +6,7 @@ use native.Mathlib.Nat.{le-min, mul-le-mul-right}
 use native.Mathlib.Omega.{arith}
 use mathlib.Core.Path.{_≡_, refl, sym, ap, ap₂, _∙_, subst, subst₂}
 use mathlib.Core.Logic.{_↔_}
-use mathlib.Core.Bool.{Bool, false}
+use mathlib.Core.Bool.{Bool}
 use mathlib.Core.List.{List, [], _∷_, _++_}
 use lib.ListN.{length, take}
 use Rattle.pauli.specs.Pauli.{Pauli, _·_}
@@ -15,8 +15,8 @@ use Rattle.pauli.proofs.Lists.{length-each}
 use Rattle.pauli.proofs.RowLaws.{pad-mul}
 use Rattle.encoding.specs.Limits.{wordsOf}
 use Rattle.encoding.specs.Set.{Mem, count, rowsIn, rowsOf, lay, Valid, Sound}
-use Rattle.encoding.specs.Refusals.{fault, setTests, leftOr}
-use Rattle.encoding.proofs.Faults.{joined-fault, least-none, or-none, not-large, First, refused-iff}
+use Rattle.encoding.specs.Refusals.{setLines, leftOr}
+use Rattle.encoding.proofs.Faults.{or-none}
 use Rattle.encoding.proofs.Memory.{Proper, row-count, count-lay, read-lay, valid-lay}
 use Rattle.encoding.proofs.Exponents.{exponent-small}
 use Rattle.reduction.specs.Lists.{Distinct, All, different}
@@ -33,15 +33,15 @@ use Rattle.reduction.proofs.Theorems.{log-replays, entries-good, entries-most, 
 use Rattle.reduction.proofs.PauliRows.{rows-laws}
 use Rattle.terms.specs.declared.Canonicalized.{Canonicalized}
 use Rattle.terms.specs.declared.Canonicalized.the-variants.{Done, Full, Refused}
-use Rattle.encoding.specs.Ranks.{TableLine, byRank}
-use Rattle.terms.specs.Refused.{repeated, listTests, reduceTests, columnTwice, reduceFault}
+use Rattle.encoding.specs.Ranks.{byRank, TableLine}
+use Rattle.terms.specs.Refused.{listLines, reduceFault}
 use Rattle.terms.specs.Calls.{answerOf, rowsLeft, entriesLeft, outcomeOf, Reduces}
-use Rattle.encoding.proofs.Ranks.{Given, given-iff, ranked}
-use Rattle.terms.proofs.Scans.{asked-of, once-of}
+use Rattle.encoding.proofs.Ranks.{Given, given-iff, rank-append}
+use Rattle.terms.proofs.Scans.{asked-of, order-once}
 
 -- ---- rows of n qubits stay so
 
-pad-long : (n : ℕ) (a b : List Pauli) → length a ≡ n → length b ≡ n → length (padMul a b) ≡ n
+pub pad-long : (n : ℕ) (a b : List Pauli) → length a ≡ n → length b ≡ n → length (padMul a b) ≡ n
 pad-long n a b p q = ap length (pad-mul a b (q ∙ sym p)) ∙ length-each _·_ a b (q ∙ sym p) ∙ p
 
 pub proper-mul : {n m : ℕ} {σ : ℕ → Row} (a b : ℕ) → a < m → b < m → Proper n m σ → Proper n m (mulAt (mulRow n) σ a b)
@@ -86,22 +86,16 @@ done-run bit mul′ room order listed extra σ s e = go (decLe (length (reduce b
     go (yes h) = let q = run-fits bit mul′ room order listed extra σ h in cc
     go (no h) = absurd (let q = run-stops bit mul′ room order listed extra σ (omega arith) in let z : _≡_ {A = ℕ} 0 1 = cc in omega arith)
 
--- nothing is refused: no line from 1 to 7 fits, and no column is there twice
+-- nothing is refused: no line of the set fits, and none of the lists
 module _ (n : ℕ) (M : Mem) (order listed extra : List ℕ) (z : reduceFault n M order listed extra ≡ 0) where
-  pub none-refused : (fault (reduceTests n M order listed extra) ≡ 0) × (repeated order ≡ false)
-  unfolding byRank
-  none-refused =
-      let ts = reduceTests n M order listed extra in
-      let p = or-none (fault ts) (byRank (columnTwice order ∷ [])) (sym (ranked 0 ts (columnTwice order ∷ [])) ∙ z) in
-      (p .0, not-large 14 (repeated order) (p .1))
+  pub none-refused : (byRank (setLines n M) ≡ 0) × (byRank (listLines n (count M) order listed extra) ≡ 0)
+  none-refused = or-none _ _ (sym (rank-append (setLines n M) (listLines n (count M) order listed extra) refl) ∙ z)
 
   pub reduce-asked : Asked (n + n) (count M) order listed extra
-  reduce-asked =
-      asked-of n (count M) order listed extra
-      (least-none (fault (setTests n M)) (fault (listTests n (count M) order listed extra)) (joined-fault (setTests n M) (listTests n (count M) order listed extra) ∙ none-refused .0) .1)
+  reduce-asked = asked-of n (count M) order listed extra (none-refused .1)
 
   pub columns-once : Distinct order
-  columns-once = once-of order (none-refused .1)
+  columns-once = order-once n (count M) order listed extra (none-refused .1)
 
   -- so there are at most 2n columns, and at most m listed rows
   pub lengths-within : (length order ≤ n + n) × (length listed ≤ count M)
@@ -225,7 +219,3 @@ refused-only room o (suc f) k e = cc
 
 pub canonicalized-refused : (room : ℕ) (out : Reduced Row) (ls : List TableLine) (k : ℕ) → (answerOf (byRank ls) room out ≡ Refused (suc k)) ↔ Given (suc k) ls
 canonicalized-refused room out = given-iff Refused (λ f. answerOf f room out) (λ k. refl) (refused-only room out)
-
--- `canonicalize_all` tests its set alone
-pub canonicalized-all-refused : (room : ℕ) (out : Reduced Row) (ts : List Bool) (k : ℕ) → (answerOf (fault ts) room out ≡ Refused (suc k)) ↔ First ts k
-canonicalized-all-refused room out = refused-iff Refused (λ f. answerOf f room out) (λ k. refl) (refused-only room out)

@@ -17,7 +17,8 @@ use Rattle.pauli.specs.Pauli.{Pauli, hasX, hasZ, mul, phases, clashes}
 use Rattle.encoding.specs.Limits.{maxQubits, maxRows, wordsOf}
 use Rattle.encoding.specs.Words.{unpack, pack}
 use Rattle.encoding.specs.Set.{part, row, Mem, memOf, count, phaseUnits, exponentAt, withExponent, Sound}
-use Rattle.encoding.specs.Refusals.{faultFrom, fault, outTests}
+use Rattle.encoding.specs.Refusals.{outLines}
+use Rattle.encoding.specs.Ranks.{byRank}
 use Rattle.encoding.proofs.Sets.{shape-of}
 use Rattle.encoding.proofs.Parts.{row-end, row-long}
 use Rattle.encoding.proofs.Memory.{mem-eq}
@@ -27,7 +28,7 @@ use Rattle.products.specs.Leaves.{Outside, inside, ProductIn}
 use Rattle.products.specs.declared.Factor.{Factor}
 use Rattle.products.proofs.InPlace.{inside-is}
 use Rattle.products.proofs.PartLaws.{part-put, outside-put, put-is}
-use Rattle.terms.specs.Leaves.{bothIn, putRow, mulIn, clashesIn, InRows, RowsMultiplied}
+use Rattle.terms.specs.Workers.{bothIn, putRow, mulIn, clashesIn, InRows, RowsMultiplied}
 
 -- ---- both rows lie inside
 
@@ -56,7 +57,7 @@ module _ {w a b : ℕ} {M : Mem} (h : InRows w a b M) where
       → (m : ℕ) → m ≡ count M → RowsMultiplied w a b M (memOf m xs′ zs′ p) (e .clashes)
   rows-multiplied {xs′} {zs′} {e} q f m l = record { factor = e; words = q .done rows-inside; many = l; exponents = f; number = refl }
 
-pub in-rows : (n : ℕ) (M : Mem) (w a b : ℕ) → w ≡ wordsOf n → fault (outTests n M) ≡ 0 → a < count M → b < count M → InRows w a b M
+pub in-rows : (n : ℕ) (M : Mem) (w a b : ℕ) → w ≡ wordsOf n → byRank (outLines n M) ≡ 0 → a < count M → b < count M → InRows w a b M
 in-rows n M w a b hw e ha hb =
     let s = shape-of n M e in
     record {
@@ -79,18 +80,18 @@ module _ (n a b : ℕ) (M : Mem) where
       let B = unpack (row w b (M .xs)) (row w b (M .zs)) in
       (sym (ap (λ t. cond t (memOf (count M) (putRow w a (pack hasX w (mul A B)) (M .xs)) (putRow w a (pack hasZ w (mul A B)) (M .zs)) (withExponent (M .es) a ((exponentAt (M .es) a + exponentAt (M .es) b + phases A B) % 4))) M) e), sym (ap (λ t. cond t (clashes A B % 65536) 0) e))
 
-  pub no-shape : (fault (outTests n M) ≡ 0 → ⊥) → (M ≡ mulIn n a b M) × (0 ≡ clashesIn n a b M)
+  pub no-shape : (byRank (outLines n M) ≡ 0 → ⊥) → (M ≡ mulIn n a b M) × (0 ≡ clashesIn n a b M)
   no-shape ne = stays (ap (λ t. t && (ltb a (count M) && ltb b (count M))) (ne-eqb _ 0 ne))
 
-  pub no-a : fault (outTests n M) ≡ 0 → count M ≤ a → (M ≡ mulIn n a b M) × (0 ≡ clashesIn n a b M)
+  pub no-a : byRank (outLines n M) ≡ 0 → count M ≤ a → (M ≡ mulIn n a b M) × (0 ≡ clashesIn n a b M)
   no-a e h = stays (ap₂ (λ s t. s && (t && ltb b (count M))) (eq-eqb _ 0 e) (le-ltb a (count M) h))
 
-  pub no-b : fault (outTests n M) ≡ 0 → a < count M → count M ≤ b → (M ≡ mulIn n a b M) × (0 ≡ clashesIn n a b M)
+  pub no-b : byRank (outLines n M) ≡ 0 → a < count M → count M ≤ b → (M ≡ mulIn n a b M) × (0 ≡ clashesIn n a b M)
   no-b e g h = stays (ap₂ (λ s t. s && t) (eq-eqb _ 0 e) (ap₂ (λ s t. s && t) (lt-ltb a (count M) g) (le-ltb b (count M) h)))
 
 -- ---- and the product where both are
 
-module _ (n a b : ℕ) (M : Mem) (e : fault (outTests n M) ≡ 0) (ha : a < count M) (hb : b < count M) where
+module _ (n a b : ℕ) (M : Mem) (e : byRank (outLines n M) ≡ 0) (ha : a < count M) (hb : b < count M) where
   both : bothIn n M a b ≡ true
   both = ap₂ (λ s t. s && t) (eq-eqb _ 0 e) (ap₂ (λ s t. s && t) (lt-ltb a (count M) ha) (lt-ltb b (count M) hb))
 
@@ -154,8 +155,8 @@ module _ (n a b : ℕ) (M : Mem) (e : fault (outTests n M) ≡ 0) (ha : a < coun
       })
 
 -- a row set within the limits has the shape
-pub shape-is : {n : ℕ} {M : Mem} → Sound n M → fault (outTests n M) ≡ 0
-unfolding faultFrom
+pub shape-is : {n : ℕ} {M : Mem} → Sound n M → byRank (outLines n M) ≡ 0
+unfolding byRank
 shape-is {n} {M} s =
     let w = wordsOf n in
     simp (le-ltb maxQubits n (s .few-qubits), le-ltb maxRows (count M) (s .few-rows), eq-eqb (length (M .xs)) (count M * w) (s .valid .x-long), eq-eqb (length (M .zs)) (count M * w) (s .valid .z-long), eq-eqb (length (M .es)) (phaseUnits (count M)) (laid-long (count M) (s .valid .exponents)))

@@ -11,12 +11,12 @@ use Rattle.pauli.specs.Rows.{clashesOf}
 use Rattle.pauli.specs.Matrix.{times, Same, Commute, Anticommute, rowMatrix}
 use Rattle.pauli.proofs.Meaning.{row-product, clashes-even, clashes-odd}
 use Rattle.pauli.proofs.RowTests.{row-with-itself}
-use Rattle.encoding.proofs.Sets.{rows-in}
+use Rattle.encoding.proofs.Sets.{rows-in, read-proper}
 use Rattle.encoding.specs.Limits.{wordsOf}
 use Rattle.encoding.specs.Set.{Mem, count, rowsOf, lay}
-use Rattle.encoding.specs.Refusals.{fault, rowsTests, leftOr}
+use Rattle.encoding.specs.Refusals.{rowsLines, leftOr}
+use Rattle.encoding.specs.Ranks.{byRank}
 use Rattle.encoding.proofs.Memory.{Proper, read-lay}
-use Rattle.encoding.proofs.Sets.{read-proper}
 use Rattle.reduction.specs.Rule.{mulAt}
 use Rattle.terms.specs.Calls.{Multiplies, clashesOr}
 use Rattle.terms.specs.declared.Clashes.the-variants as clash
@@ -28,12 +28,12 @@ given zero v d e = (refl, cc)
 given (suc k) v d e = let z : _≡_ {A = ℕ} 0 1 = cc in absurd (omega arith)
 
 module _ (n a b : ℕ) {M M′ : Mem} {d : ℕ} (c : Multiplies n a b M M′ (clash.Number d)) where
-  no-fault : fault (rowsTests n M a b) ≡ 0
-  no-fault = given (fault (rowsTests n M a b)) (clashesOf n (rowsOf n M a) (rowsOf n M b)) d (sym (c .answer)) .0
+  no-fault : byRank (rowsLines n M a b) ≡ 0
+  no-fault = given (byRank (rowsLines n M a b)) (clashesOf n (rowsOf n M a) (rowsOf n M b)) d (sym (c .answer)) .0
 
   -- the number is that of the qubits where the rows, as they were, clash
   pub imul-number : d ≡ clashesOf n (rowsOf n M a) (rowsOf n M b)
-  imul-number = sym (given (fault (rowsTests n M a b)) (clashesOf n (rowsOf n M a) (rowsOf n M b)) d (sym (c .answer)) .1)
+  imul-number = sym (given (byRank (rowsLines n M a b)) (clashesOf n (rowsOf n M a) (rowsOf n M b)) d (sym (c .answer)) .1)
 
   -- even exactly when their matrices commute, odd exactly when they anticommute, and 0 for a row by itself
   pub imul-commuted : Commute n (rowMatrix n (rowsOf n M a)) (rowMatrix n (rowsOf n M b)) ↔ (d % 2 ≡ 0)

@@ -17,8 +17,7 @@ use Rattle.reduction.specs.Capacity.{done, full}
 use Rattle.reduction.specs.Workers.{andThen, multiplyC, turnC, leadC, pivotC, columnByC, columnC}
 use Rattle.reduction.proofs.Pieces.{At, pivot-at}
 use Rattle.late.specs.declared.Progress.{Progress}
-use Rattle.terms.specs.Leaves.{bitIn}
-use Rattle.terms.specs.Work.{Ready, runOf, outcome, Does}
+use Rattle.terms.specs.Workers.{bitIn, Ready, runOf, outcome, Does}
 use Rattle.terms.proofs.RowView.{bit-view}
 use Rattle.terms.proofs.Steps.{does-as, does-none}
 

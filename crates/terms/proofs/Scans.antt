@@ -4,26 +4,25 @@ use mathlib.Core.Path.{_≡_, refl, sym, ap, ap₂, _∙_, subst}
 use mathlib.Core.Logic.{⊎-elim}
 use mathlib.Core.Bool.{Bool, true, false, cond, not, _&&_, _||_}
 use mathlib.Core.List.{List, [], _∷_}
-use Prim.Native.Nat.{ℕ, zero, suc, _+_, _-_, _≤_, _<_}
+use Prim.Native.Nat.{ℕ, _+_, _-_, _≤_, _<_}
 use native.Mathlib.Decide.{decLe}
 use native.Mathlib.Nat.{add-zero}
 use native.Mathlib.Numerals.{add-one}
 use native.Mathlib.Omega.{arith}
 use borrow.Author.Tests.{le-leb, lt-leb, leb-false, eq-eqb, ne-eqb, not-false}
 use lib.Dec.{leb, eqb}
-use lib.ListN.{length, getD, drop, set, replicate, drop-of-length-le}
+use lib.ListN.{length, getD, drop, set, drop-of-length-le}
 use lib.Seq.{drop-cons, getD-set-same, getD-set-other}
-use Rattle.encoding.specs.Refusals.{fault, some, tooLarge}
+use Rattle.encoding.specs.Refusals.{some, tooLarge}
 use Rattle.encoding.proofs.Scan.{none-of, some-none, some-never}
-use Rattle.encoding.proofs.Faults.{no-test, or-none, not-large}
+use Rattle.encoding.proofs.Ranks.{none-holds}
 use Rattle.pauli.proofs.Bools.{not-so}
 use Rattle.reduction.specs.Lists.{In, has, Distinct, distinct, every}
 use Rattle.reduction.specs.Demand.{Asked}
 use Rattle.reduction.proofs.Lists.{distinct→, place-of, in-either, same?, →every, most-below}
-use Rattle.encoding.specs.Ranks.{byRank, numbered}
-use Rattle.terms.specs.Refused.{largeNumber, repeated, listTests, columnTwice, listLines}
-use Rattle.terms.specs.Work.{Blank}
-use Rattle.encoding.proofs.Ranks.{ranked}
+use Rattle.encoding.specs.Ranks.{byRank}
+use Rattle.terms.specs.Refused.{largeNumber, repeated, listLines}
+use Rattle.terms.specs.Workers.{Blank}
 
 -- ---- a + b or above, without the sum
 
@@ -105,12 +104,6 @@ pub marking-end : (l : List ℕ) (i : ℕ) (marks : List ℕ) → length l ≤ i
 unfolding every distinct
 marking-end l i marks h m = sym (sym (ap (λ ks. every (free marks) ks && distinct ks) (drop-of-length-le l h)) ∙ m)
 
--- a table as it is made
-pub zeros : (m k : ℕ) → getD (replicate {A = ℕ} m 0) k 0 ≡ 0
-zeros zero k = refl
-zeros (suc m) zero = refl
-zeros (suc m) (suc k) = zeros m k
-
 -- a number of a list in which none is m or above; and none is where the limit is raised
 pub small : (l : List ℕ) (m i : ℕ) → some (tooLarge m) l ≡ false → i < length l → getD l i 0 < m
 small l m i e h = leb-false m (getD l i 0) (some-none (tooLarge m) 0 l e i h)
@@ -151,32 +144,28 @@ module _ (n m : ℕ) (order listed extra : List ℕ) where
       (o .0, r .0, r .1)
 
   pub fault-6 : largeNumber n m order listed extra ≡ true → 6 ≡ byRank (listLines n m order listed extra)
-  unfolding byRank numbered
+  unfolding byRank
   fault-6 e = rw e
 
   pub fault-7 : largeNumber n m order listed extra ≡ false → repeated listed ≡ true → 7 ≡ byRank (listLines n m order listed extra)
-  unfolding byRank numbered
+  unfolding byRank
   fault-7 e f = rw (e, f)
 
   pub fault-15 : (b : Bool) → largeNumber n m order listed extra ≡ false → repeated listed ≡ false → repeated order ≡ b
       → cond b 15 0 ≡ byRank (listLines n m order listed extra)
-  unfolding byRank numbered
+  unfolding byRank
   fault-15 b e f g = rw (e, f, g)
 
-  -- no line fits: no test from 1 to 7, and no column twice
-  pub no-line : byRank (listLines n m order listed extra) ≡ 0 → (fault (listTests n m order listed extra) ≡ 0) × (repeated order ≡ false)
-  unfolding byRank
-  no-line e =
-      let p = or-none (fault (listTests n m order listed extra)) (byRank (columnTwice order ∷ [])) (sym (ranked 0 (listTests n m order listed extra) (columnTwice order ∷ [])) ∙ e) in
-      (p .0, not-large 14 (repeated order) (p .1))
+  -- no line fits: each listed row and each column once, and all numbers below their limits
+  pub order-once : byRank (listLines n m order listed extra) ≡ 0 → Distinct order
+  order-once e = once-of order (none-holds (listLines n m order listed extra) refl e 2)
 
-  -- nothing refused: each listed row once, and all numbers below their limits
-  pub asked-of : fault (listTests n m order listed extra) ≡ 0 → Asked (n + n) m order listed extra
+  pub asked-of : byRank (listLines n m order listed extra) ≡ 0 → Asked (n + n) m order listed extra
   asked-of e =
-      let no = no-test 0 (listTests n m order listed extra) e in
-      let r = no-large (no 5) in
+      let no = none-holds (listLines n m order listed extra) refl e in
+      let r = no-large (no 0) in
       record {
-        once = distinct→ listed (not-false (distinct listed) (no 6));
+        once = once-of listed (no 1);
         rows-in = λ k i. ⊎-elim (all-below m listed (r .1) k) (all-below m extra (r .2) k) (in-either k listed extra i);
         columns-in = all-below (n + n) order (r .0);
       }

@@ -1,33 +1,26 @@
 -- Pieces of a run in memory: nothing done, one entry, one piece after another, a loop over a list. A piece leaves the rule's run on its own part, room and lengths
 -- kept (`Does`), so that pieces go together as the rule's do (`does-then`). Assumes nothing.
-use Prim.Native.Nat.{ℕ, suc, _+_, _<_, _≤_}
+use Prim.Native.Nat.{ℕ, _+_, _<_, _≤_}
 use native.Mathlib.Omega.{arith}
 use native.Mathlib.Numerals.{add-one}
 use mathlib.Core.Path.{_≡_, refl, sym, ap, _∙_, subst}
 use mathlib.Core.Bool.{true, false, cond}
-use mathlib.Core.List.{List, [], _∷_, _++_, append-assoc}
+use mathlib.Core.List.{List, []}
 use lib.ListN.{length, getD, take, drop, set, length-set}
-use lib.Seq.{take-suc-set, length-take-le, getD-set-other, drop-cons, drop-length}
+use lib.Seq.{getD-set-other, drop-cons, drop-length}
 use borrow.Author.Tests.{lt-ltb, le-ltb}
 use Rattle.pauli.specs.Row.{Row, mulRow}
-use Rattle.encoding.specs.Set.{Mem, count, rowsOf, Sound}
+use Rattle.encoding.specs.Set.{Mem, count, rowsOf}
 use Rattle.reduction.specs.Rule.{Entry, Run, mulAt, multiply}
 use Rattle.reduction.specs.Log.{pairs, capacity}
 use Rattle.reduction.specs.Capacity.{Reduced, done, full}
 use Rattle.reduction.specs.Workers.{andThen, through, multiplyC}
-use Rattle.reduction.proofs.Log.{length-first, pairs-more}
+use Rattle.reduction.proofs.Log.{length-first}
 use Rattle.late.specs.declared.Progress.{Progress}
-use Rattle.terms.specs.Leaves.{mulIn}
-use Rattle.terms.specs.Work.{Keeps, Ready, runOf, outcome, Does}
+use Rattle.terms.specs.Workers.{mulIn, Keeps, Ready, runOf, outcome, Does}
+use Rattle.late.proofs.Turning.{logged-two}
+use Rattle.late.proofs.View.{keeps-none, keeps-then}
 use Rattle.terms.proofs.RowView.{Held, mul-view}
-
--- ---- memory
-
-pub keeps-none : {n : ℕ} {M : Mem} → Sound n M → Keeps n M M
-keeps-none v = record { sound = v; x-len = refl; z-len = refl; e-len = refl; many = refl }
-
-pub keeps-then : {n : ℕ} {M M₁ M₂ : Mem} → Keeps n M M₁ → Keeps n M₁ M₂ → Keeps n M M₂
-keeps-then a b = record { sound = b .sound; x-len = b .x-len ∙ a .x-len; z-len = b .z-len ∙ a .z-len; e-len = b .e-len ∙ a .e-len; many = b .many ∙ a .many }
 
 -- ---- pieces
 
@@ -84,12 +77,6 @@ does-full {n} {M₀} {log₀} {s₀} {M} {log} {s} {f} g K e =
 
 -- ---- one entry
 
--- two units more
-take-two : (l : List ℕ) (m a b : ℕ) → m + 1 < length l → take (suc (suc m)) (set (set l m a) (suc m) b) ≡ take m l ++ (a ∷ b ∷ [])
-take-two l m a b h =
-    take-suc-set (set l m a) (suc m) b (simp length-set (omega arith))
-    ∙ ap (λ k. k ++ (b ∷ [])) (take-suc-set l m a (omega arith)) ∙ append-assoc (take m l) (a ∷ []) (b ∷ [])
-
 run-eq : {σ σ' : ℕ → Row} {l l' : List Entry} (t : ℕ) → σ ≡ σ' → l ≡ l' → _≡_ {A = Run Row} (record { rows = σ; log = l; t = t }) (record { rows = σ'; log = l'; t = t })
 run-eq t p q = λ i. record { rows = p i; log = q i; t = t }
 
@@ -116,17 +103,11 @@ module _ {n : ℕ} {M : Mem} {log : List ℕ} {s : Progress} (ready : Ready n M 
   unfolding multiplyC multiply runOf outcome
   put-done {M′} e ha hb h =
       let m = s .entries + s .entries in
-      let log' = set (set log m a) (m + 1) b in
-      let two : s .entries + 1 + (s .entries + 1) ≡ suc (suc m) = omega arith in
       let held : Held n (mulAt (mulRow n) (rowsOf n M) a b) M M′ = subst (λ N. Held n (mulAt (mulRow n) (rowsOf n M) a b) M N) (sym e) (mul-view (ready .sound) a b ha hb) in
       record {
         result =
             ap (λ r. done r)
-            (run-eq (s .t) (held .rows-are)
-            (ap (λ j. pairs (take j log')) two
-            ∙ ap (λ j. pairs (take (suc (suc m)) (set (set log m a) j b))) (add-one m)
-            ∙ ap pairs (take-two log m a b (omega arith))
-            ∙ pairs-more (s .entries) (take m log) a b (length-take-le m log (ready .room))))
+            (run-eq (s .t) (held .rows-are) (logged-two (s .entries) log a b h))
             ∙ sym (ap (λ x. cond x (done (multiply (mulRow n) a b (runOf n M log s))) (full (pairs (take m log)) (rowsOf n M))) (lt-ltb (length (pairs (take m log))) (capacity log) (omega (arith, there))));
         grows = omega arith;
         room = simp length-set (omega arith);

@@ -1,28 +1,31 @@
 -- `canonicalize_all` is `canonicalize` by all columns, with all rows listed and none extra: nothing more is refused, never 15, and that order names every
 -- column. Assumes nothing.
-use Prim.Native.Nat.{ℕ, suc, _+_, _<_}
+use Prim.Native.Nat.{ℕ, zero, suc, _+_, _<_}
 use native.Mathlib.Omega.{arith}
 use mathlib.Core.Path.{_≡_, refl, sym, ap, ap₂, _∙_, subst}
-use mathlib.Core.Bool.{true, false, cond, not, _||_, false≢true}
+use mathlib.Core.Bool.{true, false, not, _||_, false≢true}
 use mathlib.Core.List.{List, [], _∷_}
 use lib.ListN.{length, getD}
-use borrow.Author.Tests.{lt-leb}
+use mathlib.Core.Logic.{inl, inr}
+use borrow.Author.Tests.{lt-leb, eq-eqb}
+use lib.Dec.{eqb}
 use Rattle.encoding.specs.Set.{Mem, count}
-use Rattle.encoding.specs.Refusals.{faultFrom, fault, some, tooLarge, least, setTests}
-use Rattle.encoding.proofs.Faults.{joined-fault, least-zero, orElse}
+use Rattle.encoding.specs.Refusals.{some, tooLarge, setLines}
+use Rattle.encoding.proofs.Faults.{orElse}
 use Rattle.encoding.proofs.Parts.{length-list, getD-list}
 use Rattle.reduction.specs.Lists.{In, has, Distinct, distinct}
 use Rattle.reduction.specs.Demand.{NamesAll}
-use Rattle.pauli.proofs.Bools.{not-so, and-both}
+use Rattle.pauli.proofs.Bools.{not-so, and-both, and-left, and-right}
 use Rattle.reduction.proofs.Lists.{has→in, in-getD, place-of, distinct→, most-different, different-le, most-below}
 use Rattle.terms.specs.declared.Canonicalized.{Canonicalized}
 use Rattle.terms.specs.declared.Canonicalized.the-variants.{Refused}
 use Rattle.reduction.specs.Log.{capacity}
-use Rattle.encoding.specs.Ranks.{byRank}
-use Rattle.terms.specs.Refused.{listTests, reduceTests, columnTwice, reduceFault}
+use Rattle.encoding.specs.Ranks.{TableLine, byRank}
+use Rattle.terms.specs.Refused.{listLines, reduceFault}
 use Rattle.terms.specs.Calls.{Leaves, Reduces, ReducesAll, wholeOutcome, upTo}
-use Rattle.encoding.proofs.Ranks.{ranked, or-zero}
-use Rattle.terms.proofs.Finished.{canonicalized-all-refused}
+use Rattle.encoding.proofs.Ranks.{Given, rank-append}
+use Rattle.pauli.specs.Lists.{every}
+use Rattle.terms.proofs.Finished.{canonicalized-refused}
 
 none-large : (m : ℕ) (l : List ℕ) → ((i : ℕ) → i < length l → getD l i 0 < m) → some (tooLarge m) l ≡ false
 unfolding some
@@ -48,27 +51,25 @@ below-up m i h = let p = at-up m i h in subst (λ k. k < m) (sym (p .1)) (p .0)
 pub up-once : (m : ℕ) → distinct (upTo m) ≡ true
 up-once m = each-once (upTo m) (λ i j g g′ e. sym (at-up m i g .1) ∙ e ∙ at-up m j g′ .1)
 
-no-list-fault : (n m : ℕ) → fault (listTests n m (upTo (n + n)) (upTo m) []) ≡ 0
-unfolding faultFrom some
+no-list-fault : (n m : ℕ) → byRank (listLines n m (upTo (n + n)) (upTo m) []) ≡ 0
+unfolding byRank some
 no-list-fault n m =
     simp (
       none-large (n + n) (upTo (n + n)) (below-up (n + n)),
       none-large m (upTo m) (below-up m),
       up-once m,
+      up-once (n + n),
     )
 
+pub or-zero : (a : ℕ) → orElse a 0 ≡ a
+or-zero zero = refl
+or-zero (suc a) = refl
+
 -- Nothing more is refused than the set's own faults.
-pub whole-fault : (n : ℕ) (M : Mem) → reduceFault n M (upTo (n + n)) (upTo (count M)) [] ≡ fault (setTests n M)
-unfolding byRank
+pub whole-fault : (n : ℕ) (M : Mem) → reduceFault n M (upTo (n + n)) (upTo (count M)) [] ≡ byRank (setLines n M)
 whole-fault n M =
-    let order = upTo (n + n) in
-    let ts = reduceTests n M order (upTo (count M)) [] in
-    let parts : fault ts ≡ fault (setTests n M)
-    = sym (joined-fault (setTests n M) (listTests n (count M) order (upTo (count M)) []))
-    ∙ ap (least (fault (setTests n M))) (no-list-fault n (count M)) ∙ least-zero (fault (setTests n M)) in
-    ranked 0 ts (columnTwice order ∷ [])
-    ∙ ap₂ orElse parts (ap (λ b. cond (not b) 15 0) (up-once (n + n)))
-    ∙ or-zero (fault (setTests n M))
+    rank-append (setLines n M) (listLines n (count M) (upTo (n + n)) (upTo (count M)) []) refl
+    ∙ ap (orElse (byRank (setLines n M))) (no-list-fault n (count M)) ∙ or-zero (byRank (setLines n M))
 
 -- So the contract of `canonicalize_all` is that of `canonicalize` at these lists.
 pub whole-is : (n : ℕ) (M : Mem) (log : List ℕ) (M′ : Mem) (log′ : List ℕ) (r : Canonicalized) → ReducesAll n M log M′ log′ r → Reduces n (upTo (n + n)) (upTo (count M)) [] M log M′ log′ r
@@ -79,10 +80,18 @@ pub whole-names : (n : ℕ) → NamesAll (n + n) (upTo (n + n))
 whole-names n c h =
     subst (λ k. In k (upTo (n + n))) (getD-list (n + n) (λ k. k) c 0 h) (in-getD (upTo (n + n)) c (omega (arith, length-list (n + n) (λ k. k))))
 
+-- a number that no line has is not given
+other-number : (k : ℕ) (ls : List TableLine) → every (λ l. not (eqb (l .number) k)) ls ≡ true → Given k ls → ⊥
+unfolding every
+other-number k [] c g = g
+other-number k (l ∷ ls) c (inl p) = false≢true (sym (ap not (eq-eqb (l .number) k (p .1))) ∙ and-left (not (eqb (l .number) k)) (every (λ l. not (eqb (l .number) k)) ls) c)
+other-number k (l ∷ ls) c (inr p) = other-number k ls (and-right (not (eqb (l .number) k)) (every (λ l. not (eqb (l .number) k)) ls) c) (p .1)
+
 -- It names no column twice, so 15 is never drawn.
 pub whole-never-15 : {n : ℕ} {M : Mem} {log : List ℕ} {M′ : Mem} {log′ : List ℕ} {r : Canonicalized} → ReducesAll n M log M′ log′ r → r ≡ Refused 15 → ⊥
+unfolding every
 whole-never-15 {n} {M} {log} L e =
-    false≢true (canonicalized-all-refused (capacity log) (wholeOutcome n M log) (setTests n M) 14 .0 (sym (L .answer) ∙ e) .holds)
+    other-number 15 (setLines n M) refl (canonicalized-refused (capacity log) (wholeOutcome n M log) (setLines n M) 14 .0 (sym (L .answer) ∙ e))
 
 -- An order that names every column, each once, is as long as there are columns.
 pub every-once : (N : ℕ) (order : List ℕ) → NamesAll N order → Distinct order → ((c : ℕ) → In c order → c < N) → length order ≡ N

@@ -7,7 +7,8 @@ use lib.ListN.{length}
 use Rattle.pauli.specs.Row.{Row, mulRow, bitRow}
 use Rattle.pauli.specs.Rows.{clashesOf}
 use Rattle.encoding.specs.Set.{Mem, count, rowsOf, list, lay}
-use Rattle.encoding.specs.Refusals.{fault, setTests, leftOr, rowsTests}
+use Rattle.encoding.specs.Refusals.{setLines, leftOr, rowsLines}
+use Rattle.encoding.specs.Ranks.{byRank}
 use Rattle.reduction.specs.Rule.{Entry, mulAt}
 use Rattle.reduction.specs.Log.{logged, capacity}
 use Rattle.reduction.specs.Capacity.{Reduced, done, full, capped}
@@ -24,8 +25,8 @@ clashesOr zero c = clash.Number c
 clashesOr (suc k) c = clash.Refused (suc k)
 
 pub record Multiplies (n a b : ℕ) (M M′ : Mem) (r : Clashes) : Type 0 where
-  pub answer : r ≡ clashesOr (fault (rowsTests n M a b)) (clashesOf n (rowsOf n M a) (rowsOf n M b))
-  pub rows : M′ ≡ leftOr (fault (rowsTests n M a b)) M (lay n (count M) (mulAt (mulRow n) (rowsOf n M) a b))
+  pub answer : r ≡ clashesOr (byRank (rowsLines n M a b)) (clashesOf n (rowsOf n M a) (rowsOf n M b))
+  pub rows : M′ ≡ leftOr (byRank (rowsLines n M a b)) M (lay n (count M) (mulAt (mulRow n) (rowsOf n M) a b))
 
 -- ---- reduction with a log
 
@@ -80,4 +81,4 @@ abbrev pub wholeOutcome : ℕ → Mem → List ℕ → Reduced Row
 wholeOutcome n M log = outcomeOf n (upTo (n + n)) (upTo (count M)) [] M log
 
 abbrev pub ReducesAll : ℕ → Mem → List ℕ → Mem → List ℕ → Canonicalized → Type 0
-ReducesAll n M log M′ log′ r = Leaves n (fault (setTests n M)) (wholeOutcome n M log) M log M′ log′ r
+ReducesAll n M log M′ log′ r = Leaves n (byRank (setLines n M)) (wholeOutcome n M log) M log M′ log′ r

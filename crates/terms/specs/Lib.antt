@@ -1,4 +1,3 @@
 pub mod Refused
-pub mod Leaves
-pub mod Work
+pub mod Workers
 pub mod Calls

@@ -1,12 +1,12 @@
 -- RULES 9.4, refusals 6, 7 and 15, of the column order and the lists that a reduction and its check take: n qubits, m rows. Assumes nothing.
-use mathlib.Core.Bool.{Bool, false, not, _||_}
+use mathlib.Core.Bool.{Bool, not, _||_}
 use mathlib.Core.List.{List, [], _∷_, _++_}
 use Prim.Native.Nat.{ℕ, _+_}
 use Rattle.encoding.specs.Set.{Mem, count, Sound}
-use Rattle.encoding.specs.Refusals.{some, tooLarge, joined, setTests}
+use Rattle.encoding.specs.Refusals.{some, tooLarge, setLines}
 use Rattle.reduction.specs.Lists.{Distinct, distinct}
 use Rattle.reduction.specs.Demand.{Asked}
-use Rattle.encoding.specs.Ranks.{TableLine, line, byRank, numbered}
+use Rattle.encoding.specs.Ranks.{TableLine, line, byRank}
 
 -- 6: a column number of 2n or above in the order, or a row number of m or above in a list
 abbrev pub largeNumber : ℕ → ℕ → List ℕ → List ℕ → List ℕ → Bool
@@ -16,22 +16,16 @@ largeNumber n m order listed extra = some (tooLarge (n + n)) order || (some (too
 abbrev pub repeated : List ℕ → Bool
 repeated l = not (distinct l)
 
-abbrev pub listTests : ℕ → ℕ → List ℕ → List ℕ → List ℕ → List Bool
-listTests n m order listed extra = false ∷ false ∷ false ∷ false ∷ false ∷ largeNumber n m order listed extra ∷ repeated listed ∷ []
-
--- 1 to 7: a set that is read, an order and lists
-abbrev pub reduceTests : ℕ → Mem → List ℕ → List ℕ → List ℕ → List Bool
-reduceTests n M order listed extra = joined (setTests n M) (listTests n (count M) order listed extra)
-
 -- 15, after 7: in the order
 abbrev pub columnTwice : List ℕ → TableLine
 columnTwice order = line 15 (repeated order)
 
 abbrev pub listLines : ℕ → ℕ → List ℕ → List ℕ → List ℕ → List TableLine
-listLines n m order listed extra = numbered 1 (listTests n m order listed extra) ++ (columnTwice order ∷ [])
+listLines n m order listed extra = line 6 (largeNumber n m order listed extra) ∷ line 7 (repeated listed) ∷ columnTwice order ∷ []
 
+-- a set that is read, 1 to 5, then its order and lists
 abbrev pub reduceLines : ℕ → Mem → List ℕ → List ℕ → List ℕ → List TableLine
-reduceLines n M order listed extra = numbered 1 (reduceTests n M order listed extra) ++ (columnTwice order ∷ [])
+reduceLines n M order listed extra = setLines n M ++ listLines n (count M) order listed extra
 
 abbrev pub reduceFault : ℕ → Mem → List ℕ → List ℕ → List ℕ → ℕ
 reduceFault n M order listed extra = byRank (reduceLines n M order listed extra)

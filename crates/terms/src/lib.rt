@@ -5,9 +5,10 @@ ghost use lib.ListN.{length};
 ghost use Rattle.encoding.specs.Set.{Sound};
 ghost use Rattle.encoding.specs.Lent.{lent, before, after};
 ghost use Rattle.encoding.specs.Limits.{maxQubits, maxRows};
-ghost use Rattle.encoding.specs.Refusals.{fault, rowsTests};
+ghost use Rattle.encoding.specs.Refusals.{rowsLines};
+ghost use Rattle.encoding.specs.Ranks.{byRank};
 ghost use Rattle.terms.specs.Refused.{reduceFault, Reducible};
-ghost use Rattle.terms.specs.Work.{BothIn, ListsIn};
+ghost use Rattle.terms.specs.Workers.{ListsIn};
 ghost use Rattle.terms.specs.Calls.{Multiplies, Leaves, outcomeOf, Reduces, wholeOutcome, ReducesAll, upTo};
 use encoding::MAX_ROWS;
 use pauli::RowNumber;
@@ -32,16 +33,6 @@ pub enum Clashes {
     Refused(u8),
 }
 
-// The first number of the table that fits a set and two row numbers, or 0.
-fn imul_fault(n: usize, m: usize, x: &[u64], z: &[u64], phases: &[u64], a: usize, b: usize) -> u8
-    ensures { λ r. ⌜ r ≡ fault (rowsTests n (before m x z phases) a b) ⌝ }
-    ensures both { λ r. ⌜ (r ≡ 0 → BothIn n a b (before m x z phases)) ⌝ }
-{
-    let large = (m <= a) | (m <= b);
-    let f = encoding::set_fault(n, m, x, z, phases);
-    encoding::smaller(f, encoding::pick(large, 6, 0))
-}
-
 // Row a of the set is multiplied by row b, in place; the number of clashes is returned.
 pub fn imul(
     n: usize,
@@ -54,7 +45,8 @@ pub fn imul(
 ) -> Clashes
     ensures { λ r. ⌜ Multiplies n (a .0) (b .0) (before m x z phases) (after m x z phases) r ⌝ }
 {
-    let f = imul_fault(n, m, x, z, phases, a.0, b.0);
+    let large = (m <= a.0) | (m <= b.0);
+    let f = encoding::row_fault(n, m, x, z, phases, large);
     if f != 0 {
         return Clashes::Refused(f);
     }

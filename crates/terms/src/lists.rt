@@ -7,7 +7,7 @@ ghost use Rattle.encoding.specs.Limits.{maxQubits, maxRows};
 ghost use Rattle.encoding.specs.Refusals.{some, tooLarge};
 ghost use Rattle.encoding.specs.Ranks.{byRank};
 ghost use Rattle.terms.specs.Refused.{repeated as hasRepeat, listLines};
-ghost use Rattle.terms.specs.Work.{Blank};
+ghost use Rattle.terms.specs.Workers.{Blank};
 use crate::MAX_COLUMNS;
 use encoding::MAX_ROWS;
 

@@ -8,7 +8,7 @@ ghost use Rattle.encoding.specs.Set.{Sound};
 ghost use Rattle.encoding.specs.Lent.{lent, before, after};
 ghost use Rattle.reduction.specs.Log.{capacity};
 ghost use Rattle.reduction.specs.Workers.{through, multiplyC, turnC, leadC, pivotC, columnC};
-ghost use Rattle.terms.specs.Work.{Below, Ready, start, Does};
+ghost use Rattle.terms.specs.Workers.{Below, Ready, start, Does};
 use crate::rows::find;
 use crate::rows::get_bit;
 use crate::rows::imul_unchecked;

@@ -6,21 +6,22 @@ ghost use Rattle.encoding.specs.Limits.{maxRows, maxWords};
 ghost use Rattle.encoding.specs.Words.{bitAt};
 ghost use Rattle.encoding.specs.Set.{row, exponentAt, withExponent};
 ghost use Rattle.encoding.specs.Lent.{lent, before, after};
-ghost use Rattle.terms.specs.Leaves.{bitIn, firstPlace, mulIn, clashesIn, InRows, RowsMultiplied};
+ghost use Rattle.terms.specs.Workers.{bitIn, firstPlace, mulIn, clashesIn, InRows, RowsMultiplied};
 use encoding::MAX_QUBITS;
 use encoding::MAX_ROWS;
 use pauli::ComplexSign;
+use pauli::QubitNumber;
 use pauli::RowNumber;
 
 // Bit q of row k of words that lie w to a row.
-fn row_bit(x: &[u64], w: usize, k: usize, q: usize) -> bool
-    requires { ⌜ (k < maxRows) × (w ≤ maxWords) ⌝ }
-    ensures { λ r. ⌜ r ≡ bitAt (row w k (now (x .entry))) (q / 64) (q % 64) ⌝ }
+fn row_bit(x: &[u64], w: usize, k: RowNumber, q: QubitNumber) -> bool
+    requires { ⌜ (k .0 < maxRows) × (w ≤ maxWords) ⌝ }
+    ensures { λ r. ⌜ r ≡ bitAt (row w (k .0) (now (x .entry))) (q .0 / 64) (q .0 % 64) ⌝ }
 {
-    if w <= q / 64 {
+    if w <= q.0 / 64 {
         return false;
     }
-    encoding::bit_in(x, k * w * 64 + q)
+    encoding::bit_in(x, k.0 * w * 64 + q.0)
 }
 
 // Whether column c of row k is set: X of qubit c, or from n on Z of qubit c - n. Past the limits no bit is.
@@ -35,9 +36,9 @@ pub fn get_bit(n: usize, x: &[u64], z: &[u64], k: RowNumber, c: usize) -> bool
     }
     let w = encoding::words(n);
     if c < n {
-        return row_bit(x, w, k.0, c);
+        return row_bit(x, w, k, QubitNumber(c));
     }
-    row_bit(z, w, k.0, c - n)
+    row_bit(z, w, k, QubitNumber(c - n))
 }
 
 // The first place of the list, from t on, of a row with column c set; the end of the list if there is none.

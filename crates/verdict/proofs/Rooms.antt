@@ -15,7 +15,8 @@ use Rattle.pwl.specs.declared.Opened.the-variants.{Whole, Refused}
 use Rattle.pwl.specs.File.{frontAt, readRun, fileLines, fileFault}
 use Rattle.pwl.specs.Calls.{wholeOr, runLines, Outputs, tooShort, roomLines, readFault, Reads}
 use Rattle.pwl.specs.Workers.{placesBy, placesOf}
-use Rattle.pwl.proofs.Writes.{rank-append, run-numbered}
+use Rattle.encoding.proofs.Ranks.{rank-append}
+use Rattle.pwl.proofs.Writes.{run-counted}
 use Rattle.pwl.proofs.Filling.{room-is, roomy}
 use Rattle.verdict.specs.Workers.{Room}
 
@@ -40,8 +41,8 @@ room-left s o z =
     let ls = runLines (readRun s) in
     let ks = roomLines (readRun s) o in
     let a = or-none (fileFault s) (byRank (ls ++ ks))
-    (sym (rank-append (fileLines s) (ls ++ ks) ((λ y. suc-ne-zero 16 y), ((λ y. suc-ne-zero 17 y), ((λ y. suc-ne-zero 18 y), ((λ y. suc-ne-zero 19 y), tt))))) ∙ z) .1 in
-    off (tooShort (readRun s) o) (or-none (byRank ls) (byRank ks) (sym (rank-append ls ks (run-numbered (readRun s))) ∙ a) .1)
+    (sym (rank-append (fileLines s) (ls ++ ks) refl) ∙ z) .1 in
+    off (tooShort (readRun s) o) (or-none (byRank ls) (byRank ks) (sym (rank-append ls ks (run-counted (readRun s))) ∙ a) .1)
 
 pub read-roomy : (s : List ℕ) (o : Outputs) {o′ : Outputs} {a : Opened} {f : Front} → Reads s o o′ a → a ≡ Whole f
     → Room f (length (o .units)) (length (o .x)) (length (o .z)) (length (o .p)) (length (o .claimed))

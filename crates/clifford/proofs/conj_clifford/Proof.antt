@@ -1,7 +1,7 @@
 -- `clifford::conj_clifford` meets its contract: the number is the table's, and 0 says that the set and the gate may be worked on. A refusal leaves what
 -- was there, and `all_rows` the rest. Assumes nothing.
 use borrow.Author.Needs.{needs}
-use mathlib.Core.Path.{refl, ap, _∙_}
+use mathlib.Core.Path.{refl, _∙_}
 use Prim.Native.Nat.{ℕ}
 use Rattle.encoding.specs.declared.Answer.the-variants.{Refused}
 use Rattle.encoding.specs.Refusals.{doneOr, leftOr}

@@ -5,10 +5,13 @@ use Prim.Native.Nat.{ℕ}
 use borrow.Author.Needs.{needs}
 use lib.ListN.{length}
 use Rattle.encoding.specs.declared.Answer.the-variants.{Refused}
-use Rattle.encoding.specs.Refusals.{doneOr, leftOr, joined, setTests, outTests}
-use Rattle.encoding.proofs.Faults.{least-none, refusing, passing, both-parts}
+use Rattle.encoding.specs.Refusals.{doneOr, leftOr, setLines, outLines}
+use Rattle.encoding.specs.Ranks.{joined}
+use Rattle.encoding.proofs.Faults.{least-none, refusing, passing}
+use Rattle.encoding.proofs.Ranks.{both-parts}
+use Rattle.cmpnt_list.proofs.Tests.{all-parts}
 use Rattle.encoding.specs.Set.{memOf, count, lay}
-use Rattle.cmpnt_list.specs.Calls.{otherLengths, pairs, pairNumbers}
+use Rattle.cmpnt_list.specs.Calls.{clashLines, pairs, pairNumbers}
 use Rattle.cmpnt_list.proofs.cmpnts_mul_pairwise.Statement.{statement}
 use Rattle.cmpnt_list.proofs.cmpnts_mul_pairwise.Tie as tie
 use Rattle.cmpnt_list.proofs.cmpnts_mul_pairwise.Lts as lts
@@ -22,8 +25,9 @@ returns c =
     let R = memOf (a .m) (a .rx .now) (a .rz .now) (a .rp .now) in
     let O = memOf (a .m) (a .ox .now) (a .oz .now) (a .op .now) in
     let cs = a .clashes .now in
-    let e = both-parts (joined (setTests (a .n) L) (setTests (a .n) R)) (joined (otherLengths (count L) (length cs)) (outTests (a .n) O)) (k .before .before .before .before .before .both-fault .ensures .0) (k .before .third-fault .ensures .0) (k .smaller .ensures) in
+    let e = both-parts (joined (setLines (a .n) L) (setLines (a .n) R)) (joined (clashLines (count L) (length cs)) (outLines (a .n) O)) (all-parts (a .n) L R O (count L) (length cs)) (k .before .before .before .before .before .both-fault .ensures .0) (k .before .third-fault .ensures .0) (k .smaller .ensures) in
     record {
+      one-m = refl;
       answer = refusing Refused doneOr (λ k. refl) e (c .if1 .taken);
       rows = refusing (λ (k : ℕ). O) (λ (k : ℕ). leftOr k O (lay (a .n) (count L) (pairs (a .n) L R))) (λ k. refl) e (c .if1 .taken);
       numbers = refusing (λ (k : ℕ). cs) (λ (k : ℕ). leftOr k cs (pairNumbers (a .n) L R)) (λ k. refl) e (c .if1 .taken);
@@ -49,9 +53,10 @@ returns-2 c =
     let R = memOf (a .m) (a .rx .now) (a .rz .now) (a .rp .now) in
     let O = memOf (a .m) (a .ox .now) (a .oz .now) (a .op .now) in
     let cs = a .clashes .now in
-    let e = both-parts (joined (setTests (a .n) L) (setTests (a .n) R)) (joined (otherLengths (count L) (length cs)) (outTests (a .n) O)) (k .before .before .before .before .before .both-fault .ensures .0) (k .before .third-fault .ensures .0) (k .smaller .ensures) in
+    let e = both-parts (joined (setLines (a .n) L) (setLines (a .n) R)) (joined (clashLines (count L) (length cs)) (outLines (a .n) O)) (all-parts (a .n) L R O (count L) (length cs)) (k .before .before .before .before .before .both-fault .ensures .0) (k .before .third-fault .ensures .0) (k .smaller .ensures) in
     let z = i .if1 .left in
     record {
+      one-m = refl;
       answer = passing doneOr e z;
       rows = m .mul-rows .ensures .0 ∙ passing (λ (k : ℕ). leftOr k O (lay (a .n) (count L) (pairs (a .n) L R))) e z;
       numbers = m .mul-rows .ensures .1 ∙ passing (λ (k : ℕ). leftOr k cs (pairNumbers (a .n) L R)) e z;

@@ -5,9 +5,11 @@ use Prim.Native.Nat.{ℕ}
 use borrow.Author.Tests.{leb-false}
 use borrow.Author.Needs.{needs}
 use Rattle.pauli.specs.Rows.{actOn, actPhaseOn}
-use Rattle.encoding.proofs.Faults.{least-none, refusing, passing, both-parts}
+use Rattle.encoding.proofs.Faults.{least-none, refusing, passing}
+use Rattle.encoding.proofs.Ranks.{both-parts}
 use Rattle.encoding.proofs.Memory.{bare-sound}
-use Rattle.encoding.specs.Refusals.{leftOr, joined, setTests, numberTests, stateTests, tooLarge}
+use Rattle.encoding.specs.Refusals.{leftOr, rowLines, stateLines, tooLarge}
+use Rattle.cmpnt_list.proofs.Tests.{state-parts}
 use Rattle.encoding.specs.Set.{memOf, rowsIn, rowsOf, count, stateOf, layState}
 use Rattle.cmpnt_list.specs.Calls.{phaseOr}
 use Rattle.cmpnt_list.specs.declared.Phase.the-variants as phase
@@ -19,7 +21,7 @@ returns c =
     let s = c .before .before .before .before .before .before .before .before .before .before in
     let a = s .args in
     let M = memOf (a .m) (a .x .now) (a .z .now) (a .phases .now) in
-    let e = both-parts (joined (setTests (a .n) M) (numberTests (tooLarge (count M) (a .row .0)))) (stateTests (a .n) (a .state .now)) (c .before .before .before .before .row-fault .ensures .0) (c .before .before .state-fault .ensures) (c .before .smaller .ensures) in
+    let e = both-parts (rowLines (a .n) M (a .row .0)) (stateLines (a .n) (a .state .now)) (state-parts (a .n) M (tooLarge (count M) (a .row .0)) (a .state .now)) (c .before .before .before .before .row-fault .ensures .0) (c .before .before .state-fault .ensures) (c .before .smaller .ensures) in
     let st = a .state .now in
     let r = rowsOf (a .n) M (a .row .0) in
     let v = actPhaseOn (a .n) r (stateOf (a .n) st) in
@@ -44,7 +46,7 @@ returns-2 c =
     let s = c .before .before .before .before .before .before .before .before .before .before .before .before .before .before in
     let a = s .args in
     let M = memOf (a .m) (a .x .now) (a .z .now) (a .phases .now) in
-    let e = both-parts (joined (setTests (a .n) M) (numberTests (tooLarge (count M) (a .row .0)))) (stateTests (a .n) (a .state .now)) (c .before .before .before .before .before .before .before .before .row-fault .ensures .0) (c .before .before .before .before .before .before .state-fault .ensures) (c .before .before .before .before .before .smaller .ensures) in
+    let e = both-parts (rowLines (a .n) M (a .row .0)) (stateLines (a .n) (a .state .now)) (state-parts (a .n) M (tooLarge (count M) (a .row .0)) (a .state .now)) (c .before .before .before .before .before .before .before .before .row-fault .ensures .0) (c .before .before .before .before .before .before .state-fault .ensures) (c .before .before .before .before .before .smaller .ensures) in
     let st = a .state .now in
     let r = rowsOf (a .n) M (a .row .0) in
     let v = actPhaseOn (a .n) r (stateOf (a .n) st) in

@@ -1,10 +1,10 @@
 -- `cmpnt_list::matrix_fault` meets its contract. Assumes nothing.
 use borrow.Author.Needs.{needs}
-use Rattle.encoding.specs.Refusals.{setTests}
+use Rattle.encoding.specs.Refusals.{setLines}
 use Rattle.encoding.specs.Set.{memOf, count}
-use Rattle.encoding.proofs.Faults.{both-parts}
-use Rattle.cmpnt_list.specs.Calls.{matrixTests}
-use Rattle.cmpnt_list.proofs.Tests.{matrix-asked}
+use Rattle.encoding.proofs.Ranks.{both-parts}
+use Rattle.cmpnt_list.specs.Calls.{matrixLines}
+use Rattle.cmpnt_list.proofs.Tests.{matrix-asked, matrix-parts}
 use Rattle.cmpnt_list.proofs.matrix_fault.Statement.{statement}
 use Rattle.cmpnt_list.proofs.matrix_fault.Tie as tie
 
@@ -14,7 +14,7 @@ returns c =
     let f = p .before in
     let a = f .before .before .before .before .args in
     let M = memOf (a .m) (a .x .now) (a .z .now) (a .phases .now) in (
-      both-parts (setTests (a .n) M) (matrixTests (count M) (a .size)) (f .set-fault .ensures .0) (p .square-fault .ensures) (c .smaller .ensures),
+      both-parts (setLines (a .n) M) (matrixLines (count M) (a .size)) (matrix-parts (a .n) M (count M) (a .size)) (f .set-fault .ensures .0) (p .square-fault .ensures) (c .smaller .ensures),
       matrix-asked (a .n) M (a .size) (f .set-fault .ensures .0) (p .square-fault .ensures) (c .smaller .ensures) (f .set-fault .ensures .1),
     )
 

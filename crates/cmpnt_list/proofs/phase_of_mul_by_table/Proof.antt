@@ -1,4 +1,5 @@
--- `cmpnt_list::phase_of_mul_by_table` meets its contract. Assumes nothing.
+-- As for the counted call: a number of the table is the answer (`refusing`); where there is none, the worker's exponent is (`passing`), and what it asks
+-- was tested (`Readable`).
 use mathlib.Core.Path.{refl, ap, _∙_}
 use Prim.Native.Nat.{ℕ}
 use borrow.Author.Needs.{needs}

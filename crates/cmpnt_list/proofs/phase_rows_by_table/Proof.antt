@@ -1,4 +1,5 @@
--- `cmpnt_list::phase_rows_by_table` meets its contract. Assumes nothing.
+-- The two parts of words are rows a and b (`words-at`). The look-ups sum twice as many qubits as n needs at most (`table-counted`), and at n and above the
+-- rows hold I, so that it is the exponent over n qubits (`phase-is`).
 use mathlib.Core.Path.{ap₂, _∙_}
 use mathlib.Core.List.{List}
 use Prim.Native.Nat.{_+_, _%_}

@@ -10,10 +10,12 @@ use native.Mathlib.Omega.{arith}
 use lib.Bits.{bitXor}
 use lib.Ieee.{Float}
 use lib.ListN.{length}
-use Rattle.encoding.specs.Refusals.{fault, faultFrom, someBelow}
+use Rattle.encoding.specs.Refusals.{someBelow}
+use Rattle.encoding.specs.Ranks.{TableLine, line, byRank}
 use Rattle.encoding.proofs.Scan.{any-hit, any-never}
-use Rattle.encoding.proofs.Faults.{orElse, fault-append}
-use Rattle.mat_elem.specs.Terms.{termTests, hasBlock}
+use Rattle.encoding.proofs.Faults.{orElse}
+use Rattle.encoding.proofs.Ranks.{rank-append}
+use Rattle.mat_elem.specs.Terms.{termLines, hasBlock}
 use Rattle.mat_elem.specs.Workers.{foundOf, spanSum, sumOf, spanOf}
 use Rattle.mat_elem.specs.declared.Found.{Found}
 use Rattle.mat_elem.specs.declared.Found.the-variants as F
@@ -67,12 +69,12 @@ module _ (xs zs : List ℕ) (re im : List Float) (ket first : ℕ) where
 
 -- ---- the call
 module _ (n : ℕ) (xs zs : List ℕ) (re im : List Float) (bra ket : ℕ) where
-  abbrev terms : List Bool
-  terms = termTests n xs zs (length re) (length im) bra ket
+  abbrev terms : List TableLine
+  terms = termLines n xs zs (length re) (length im) bra ket
 
   -- the number of a call, by the lines 1 to 10, by 11 and by 12
-  pub number-is : (b : Bool) → fault (terms ++ wild re im ∷ b ∷ []) ≡ orElse (orElse (fault terms) (faultFrom 11 (wild re im ∷ []))) (faultFrom 12 (b ∷ []))
-  number-is b = fault-append 0 (terms ++ wild re im ∷ []) (b ∷ []) ∙ ap (λ (k : ℕ). orElse k (faultFrom 12 (b ∷ []))) (fault-append 0 terms (wild re im ∷ []))
+  pub number-is : (b : Bool) → byRank (terms ++ line 11 (wild re im) ∷ line 12 b ∷ []) ≡ orElse (orElse (byRank terms) (byRank (line 11 (wild re im) ∷ []))) (byRank (line 12 b ∷ []))
+  number-is b = rank-append (terms ++ line 11 (wild re im) ∷ []) (line 12 b ∷ []) refl ∙ ap (λ (k : ℕ). orElse k (byRank (line 12 b ∷ []))) (rank-append terms (line 11 (wild re im) ∷ []) refl)
 
   abbrev found : Found
   found = foundOf n xs zs (length re) (length im) bra ket
@@ -84,7 +86,7 @@ module _ (n : ℕ) (xs zs : List ℕ) (re im : List Float) (bra ket : ℕ) where
       rw (number-is (overflows xs zs re im (bitXor bra ket) ket), r .0) (go k (r .1))
     where
       go : (k : ℕ) → (k ≡ 0 → ⊥)
-          → Refused k ≡ element (orElse (orElse k (faultFrom 11 (wild re im ∷ []))) (faultFrom 12 (overflows xs zs re im (bitXor bra ket) ket ∷ []))) (hasBlock xs (bitXor bra ket)) (sumTo xs zs re im (bitXor bra ket) ket (length xs))
+          → Refused k ≡ element (orElse (orElse k (byRank (line 11 (wild re im) ∷ []))) (byRank (line 12 (overflows xs zs re im (bitXor bra ket) ket) ∷ []))) (hasBlock xs (bitXor bra ket)) (sumTo xs zs re im (bitXor bra ket) ket (length xs))
       go zero h = absurd (h refl)
       go (suc k) h = refl
 
@@ -95,7 +97,7 @@ module _ (n : ℕ) (xs zs : List ℕ) (re im : List Float) (bra ket : ℕ) where
         s .im-long ∙ sym (s .re-long)
 
     pub answer-wild : wild re im ≡ true → Refused 11 ≡ elementOf n xs zs re im bra ket
-    unfolding elementOf faultFrom
+    unfolding elementOf byRank
     answer-wild w = rw (number-is (overflows xs zs re im (bitXor bra ket) ket), found-block n xs zs (length re) (length im) bra ket e .0, w)
 
     over : overflows xs zs re im (bitXor bra ket) ket ≡ someBelow (suc last) (λ n. bad (spanSum xs zs re im ket first n))
@@ -103,13 +105,13 @@ module _ (n : ℕ) (xs zs : List ℕ) (re im : List Float) (bra ket : ℕ) where
     over = block-some plus zeroC (termAt xs zs re im ket) xs (bitXor bra ket) first last (found-block n xs zs (length re) (length im) bra ket e .1) bad
 
     pub answer-none : wild re im ≡ false → last ≤ first → NoBlock ≡ elementOf n xs zs re im bra ket
-    unfolding elementOf faultFrom
+    unfolding elementOf byRank
     answer-none w h =
         let f = found-block n xs zs (length re) (length im) bra ket e in
         rw (number-is (overflows xs zs re im (bitXor bra ket) ket), f .0, w, over, none-bad xs zs re im ket first last h, no-block xs (bitXor bra ket) first last (f .1) h)
 
     pub answer-sum : wild re im ≡ false → first < last → {r : Element} → r ≡ spanOf xs zs re im ket first last → r ≡ elementOf n xs zs re im bra ket
-    unfolding elementOf faultFrom spanOf
+    unfolding elementOf byRank spanOf
     answer-sum w h q =
         let f = found-block n xs zs (length re) (length im) bra ket e in
         rw (number-is (overflows xs zs re im (bitXor bra ket) ket), f .0, w, over, has-block xs (bitXor bra ket) first last (f .1) h, block-range plus zeroC (termAt xs zs re im ket) xs (bitXor bra ket) first last (f .1))

@@ -13,14 +13,16 @@ use lib.Dec.{T}
 use lib.Ieee.{Float, nan, binary64, add, fits}
 use lib.Ieee.Scale.{finite}
 use lib.ListN.{length, getD}
-use Rattle.encoding.specs.Refusals.{fault, faultFrom, some, someBelow}
-use Rattle.encoding.proofs.Faults.{no-test, First, orElse, or-none}
+use Rattle.encoding.specs.Refusals.{some, someBelow}
+use Rattle.encoding.specs.Ranks.{line, byRank}
+use Rattle.encoding.proofs.Faults.{orElse, or-none}
+use Rattle.encoding.proofs.Ranks.{none-holds, Given}
 use Rattle.encoding.proofs.Scan.{none-of, some-none, any-hit, any-same}
-use Rattle.mat_elem.specs.Terms.{termTests, inBlock, hasBlock}
+use Rattle.mat_elem.specs.Terms.{termLines, inBlock, hasBlock}
 use Rattle.mat_elem.specs.Sums.{exponentOf, stepIf, sumOver}
 use Rattle.mat_elem.proofs.OneOf.{Differ, refused-when as any-refused, none-when as any-none}
 use Rattle.mat_elem.proofs.Faults.{sound}
-use Rattle.mat_elem.specs.float.Sums.{plus, termAt, sumTo, bothFinite, wild, overflows, floatTests, element, elementOf}
+use Rattle.mat_elem.specs.float.Sums.{plus, termAt, sumTo, bothFinite, wild, overflows, floatLines, element, elementOf}
 use Rattle.mat_elem.specs.float.Product.{notMinusZero, productTo, productOf, MatElem}
 use Rattle.mat_elem.specs.declared.float.Complex.{Complex}
 use Rattle.mat_elem.specs.declared.float.Element.{Element}
@@ -82,13 +84,13 @@ module _ (n : ℕ) (xs zs : List ℕ) (re im : List Float) (bra ket : ℕ) (fr :
 
   -- the number of the lines 1 to 11
   abbrev early : ℕ
-  early = orElse (fault (termTests n xs zs (length re) (length im) bra ket)) (faultFrom 11 (wild re im ∷ []))
+  early = orElse (byRank (termLines n xs zs (length re) (length im) bra ket)) (byRank (line 11 (wild re im) ∷ []))
 
   pub plains : early ≡ 0 → (k : ℕ) → k < length xs → Plain (getD re k nan) × Plain (getD im k nan)
   plains e k h =
-      let o = or-none (fault (termTests n xs zs (length re) (length im) bra ket)) (faultFrom 11 (wild re im ∷ [])) e in
+      let o = or-none (byRank (termLines n xs zs (length re) (length im) bra ket)) (byRank (line 11 (wild re im) ∷ [])) e in
       let s = sound n xs zs (length re) (length im) bra ket (o .0) .shape in
-      let w = none-of (some (λ x. not (finite x)) re) (some (λ x. not (finite x)) im) (no-test 10 (wild re im ∷ []) (o .1) 0) in
+      let w = none-of (some (λ x. not (finite x)) re) (some (λ x. not (finite x)) im) (none-holds (line 11 (wild re im) ∷ []) refl (o .1) 0) in
       (plain re fr (w .0) k (omega (arith, s .re-long)), plain im fi (w .1) k (omega (arith, s .im-long)))
 
   -- every partial sum of a call that 1 to 11 do not refuse
@@ -105,18 +107,18 @@ module _ (n : ℕ) (xs zs : List ℕ) (re im : List Float) (bra ket : ℕ) (fr :
   by-product z = rw (number-is n xs zs re im bra ket (someBelow (suc (length xs)) (λ k. bad (sumTo xs zs re im t ket k))), number-is n xs zs re im bra ket (someBelow (suc (length xs)) (λ k. bad (productTo z xs zs re im t ket k)))) (go early refl)
     where
       go : (j : ℕ) → early ≡ j
-          → element (orElse j (faultFrom 12 (someBelow (suc (length xs)) (λ k. bad (sumTo xs zs re im t ket k)) ∷ []))) (hasBlock xs t) (sumTo xs zs re im t ket (length xs))
-          ≡ element (orElse j (faultFrom 12 (someBelow (suc (length xs)) (λ k. bad (productTo z xs zs re im t ket k)) ∷ []))) (hasBlock xs t) (productTo z xs zs re im t ket (length xs))
+          → element (orElse j (byRank (line 12 (someBelow (suc (length xs)) (λ k. bad (sumTo xs zs re im t ket k))) ∷ []))) (hasBlock xs t) (sumTo xs zs re im t ket (length xs))
+          ≡ element (orElse j (byRank (line 12 (someBelow (suc (length xs)) (λ k. bad (productTo z xs zs re im t ket k))) ∷ []))) (hasBlock xs t) (productTo z xs zs re im t ket (length xs))
       go (suc j) e = refl
       go zero e =
-          ap₂ (λ (b : Bool) (s : Complex). element (faultFrom 12 (b ∷ [])) (hasBlock xs t) s)
+          ap₂ (λ (b : Bool) (s : Complex). element (byRank (line 12 b ∷ [])) (hasBlock xs t) s)
           (any-same (λ k. bad (sumTo xs zs re im t ket k)) (λ k. bad (productTo z xs zs re im t ket k)) (suc (length xs)) (λ k l. ap bad (sym (sums z e k (le-of-suc-le-suc l) .0))))
           (sym (sums z e (length xs) (omega arith) .0))
 
   not-minus : (a b : Float) → elementOf n xs zs re im bra ket ≡ Sum a b → T (notMinusZero a) × T (notMinusZero b)
   unfolding elementOf
   not-minus a b q =
-      go early (faultFrom 12 (overflows xs zs re im t ket ∷ [])) (hasBlock xs t) refl (ap (λ (k : ℕ). element k (hasBlock xs t) (sumTo xs zs re im t ket (length xs))) (sym (number-is n xs zs re im bra ket (overflows xs zs re im t ket))) ∙ q)
+      go early (byRank (line 12 (overflows xs zs re im t ket) ∷ [])) (hasBlock xs t) refl (ap (λ (k : ℕ). element k (hasBlock xs t) (sumTo xs zs re im t ket (length xs))) (sym (number-is n xs zs re im bra ket (overflows xs zs re im t ket))) ∙ q)
     where
       go : (j k : ℕ) (h : Bool) → early ≡ j → element (orElse j k) h (sumTo xs zs re im t ket (length xs)) ≡ Sum a b → T (notMinusZero a) × T (notMinusZero b)
       go (suc j) k h p e = let no : _≡_ {A = ℕ} 0 1 = cc in absurd (omega arith)
@@ -148,12 +150,12 @@ differ = record {
 
 module _ (n : ℕ) (xs zs : List ℕ) (re im : List Float) (bra ket : ℕ) where
   abbrev number : ℕ
-  number = fault (floatTests n xs zs re im bra ket)
+  number = byRank (floatLines n xs zs re im bra ket)
 
   -- for 12 the line is that a partial sum is not finite
-  pub refused-when : (j : ℕ) → (elementOf n xs zs re im bra ket ≡ Refused (suc j)) ↔ First (floatTests n xs zs re im bra ket) j
+  pub refused-when : (j : ℕ) → (elementOf n xs zs re im bra ket ≡ Refused (suc j)) ↔ Given (suc j) (floatLines n xs zs re im bra ket)
   unfolding elementOf
-  refused-when = any-refused Refused NoBlock _ differ (floatTests n xs zs re im bra ket) (hasBlock xs (bitXor bra ket))
+  refused-when = any-refused Refused NoBlock _ differ (floatLines n xs zs re im bra ket) (hasBlock xs (bitXor bra ket))
 
   pub none-when : (elementOf n xs zs re im bra ket ≡ NoBlock) ↔ ((number ≡ 0) × ((k : ℕ) → k < length xs → getD xs k 0 ≡ bitXor bra ket → ⊥))
   unfolding elementOf

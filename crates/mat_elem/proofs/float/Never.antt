@@ -76,7 +76,7 @@ round-live f s num den D h =
     subst (λ (x : Float). T (notMinusZero x)) (sym (round-is f s num den))
     (units-live f s (nearest (n / (den * 2 ^ k)) (compare (n % (den * 2 ^ k) * 2) (den * 2 ^ k))) k (le-trans q (nearest-ge (n / (den * 2 ^ k)) (compare (n % (den * 2 ^ k) * 2) (den * 2 ^ k)))))
 
-sub-mul : (m n k : ℕ) → (m - n) * k ≡ m * k - n * k
+pub sub-mul : (m n k : ℕ) → (m - n) * k ≡ m * k - n * k
 sub-mul m n k = mul-comm (m - n) k ∙ mul-sub k m n ∙ ap (λ (z : ℕ). z - k * n) (mul-comm k m) ∙ ap (λ (z : ℕ). m * k - z) (mul-comm k n)
 
 -- ---- sums. A and B are whole multiples of c units: A * 2 ^ low ≡ X * c and B * 2 ^ low ≡ Y * c

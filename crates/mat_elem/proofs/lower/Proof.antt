@@ -1,9 +1,8 @@
 -- Invariant: the block's start is not before lo and not after hi. Whether the word in the middle is below t tells on which side of it the start lies.
 -- Where lo meets hi it is the start.
 use native.Mathlib.Omega.{arith}
-use mathlib.Core.Path.{_≡_, sym, _∙_}
+use mathlib.Core.Path.{sym, _∙_}
 use Prim.Native.Nat.{_+_, _-_, _/_, _≤_}
-use borrow.Author.Needs.{needs}
 use borrow.Author.Tests.{ltb-true, ltb-false}
 use lib.ListN.{length}
 use Rattle.mat_elem.specs.Workers.{blockFrom}

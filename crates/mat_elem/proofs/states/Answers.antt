@@ -2,20 +2,29 @@
 -- The numbers 1 to 10 are below 16, so 16 is the run's alone. Assumes nothing.
 use mathlib.Core.Path.{_≡_, refl, sym, ap, _∙_}
 use mathlib.Core.Logic.{_↔_}
-use mathlib.Core.Bool.{Bool, true, false, cond, false≢true}
+use mathlib.Core.Bool.{Bool, true, false, cond}
 use Prim.Native.Nat.{ℕ, zero, suc}
 use native.Mathlib.Omega.{arith}
-use Rattle.encoding.specs.Refusals.{fault}
-use Rattle.encoding.proofs.Faults.{refused-exactly}
+use Rattle.encoding.specs.Ranks.{byRank}
+use Rattle.encoding.proofs.Ranks.{holdsAt}
 use Rattle.checked.specs.declared.CheckedComplex.{CheckedComplex}
 use Rattle.mat_elem.specs.Workers.{overBras, totalOr}
-use Rattle.mat_elem.specs.states.Sums.{Terms, State, Run, stateTests, allPairs, total, totalOf}
+use Rattle.mat_elem.specs.states.Sums.{Terms, State, Run, stateLines, allPairs, total, totalOf}
 use Rattle.mat_elem.specs.declared.states.Total.{Total}
 use Rattle.mat_elem.specs.declared.states.Total.the-variants.{Sum, Refused}
 use Rattle.mat_elem.proofs.states.Pairs.{run-told, total-told}
 
+-- 16 is none of the numbers of the lines
+none-sixteen : (a b c d f : Bool) → _≡_ {A = ℕ} (cond a 1 (cond b 2 (cond c 3 (cond d 4 (cond f 10 0))))) 16 → ⊥
+none-sixteen true b c d f e = omega (arith, e)
+none-sixteen false true c d f e = omega (arith, e)
+none-sixteen false false true d f e = omega (arith, e)
+none-sixteen false false false true f e = omega (arith, e)
+none-sixteen false false false false true e = omega (arith, e)
+none-sixteen false false false false false e = omega (arith, e)
+
 module _ (n : ℕ) (A : Terms) (bra ket : State) where
-  pub answer-refused : {k : ℕ} → k ≡ fault (stateTests n A bra ket) → (k ≡ 0 → ⊥) → Refused k ≡ totalOf n A bra ket
+  pub answer-refused : {k : ℕ} → k ≡ byRank (stateLines n A bra ket) → (k ≡ 0 → ⊥) → Refused k ≡ totalOf n A bra ket
   unfolding totalOf
   answer-refused {k} e h = rw (sym e) (go k h)
     where
@@ -23,13 +32,16 @@ module _ (n : ℕ) (A : Terms) (bra ket : State) where
       go zero h = absurd (h refl)
       go (suc k) h = refl
 
-  pub answer-run : fault (stateTests n A bra ket) ≡ 0 → {s : CheckedComplex} {r : Total} → s ≡ overBras A bra ket → r ≡ totalOr s → r ≡ totalOf n A bra ket
+  pub answer-run : byRank (stateLines n A bra ket) ≡ 0 → {s : CheckedComplex} {r : Total} → s ≡ overBras A bra ket → r ≡ totalOr s → r ≡ totalOf n A bra ket
   unfolding totalOf
   answer-run e q p = rw e (p ∙ ap totalOr (q ∙ run-told A bra ket) ∙ total-told (allPairs A bra ket))
 
   -- 16 exactly when nothing else is refused and some number on the way leaves i64
-  not-sixteen : fault (stateTests n A bra ket) ≡ 16 → ⊥
-  not-sixteen e = false≢true (refused-exactly (stateTests n A bra ket) 15 .0 e .holds)
+  not-sixteen : byRank (stateLines n A bra ket) ≡ 16 → ⊥
+  unfolding byRank
+  not-sixteen e =
+      let t = holdsAt (stateLines n A bra ket) in
+      none-sixteen (t 0) (t 1) (t 2) (t 3) (t 4) e
 
   sixteen : (k : ℕ) (r : Run) → (k ≡ 16 → ⊥) → total k r ≡ Refused 16 → (k ≡ 0) × (r .fits ≡ false)
   sixteen zero r h q = go (r .fits) q
@@ -39,6 +51,6 @@ module _ (n : ℕ) (A : Terms) (bra ket : State) where
       go false z = (refl, refl)
   sixteen (suc k) r h q = let e : suc k ≡ 16 = cc in absurd (h e)
 
-  pub sixteen-when : (totalOf n A bra ket ≡ Refused 16) ↔ ((fault (stateTests n A bra ket) ≡ 0) × (allPairs A bra ket .fits ≡ false))
+  pub sixteen-when : (totalOf n A bra ket ≡ Refused 16) ↔ ((byRank (stateLines n A bra ket) ≡ 0) × (allPairs A bra ket .fits ≡ false))
   unfolding totalOf
-  sixteen-when = (λ q. sixteen (fault (stateTests n A bra ket)) (allPairs A bra ket) not-sixteen q, λ h. rw (h .0, h .1))
+  sixteen-when = (λ q. sixteen (byRank (stateLines n A bra ket)) (allPairs A bra ket) not-sixteen q, λ h. rw (h .0, h .1))

@@ -14,14 +14,14 @@ use Rattle.pauli.proofs.GaussRing.{⊗-comm, ⊗-assoc, ⊕-⊗, g0-⊗}
 use Rattle.pauli.proofs.Products.{sum-ext}
 use Rattle.pauli.proofs.Vectors.{⊕-g0, zeros}
 use Rattle.pauli.proofs.Inner.{⊕-assoc, sum-more, conj-⊕, conj-⊗, conj-basis}
-use Rattle.encoding.specs.Refusals.{fault}
+use Rattle.encoding.specs.Ranks.{byRank}
 use Rattle.encoding.proofs.WordLaws.{length-bits, Fit}
 use Rattle.checked.specs.Range.{gauss, pairOf}
 use Rattle.checked.proofs.Six.{conjugate-is}
 use Rattle.mat_elem.specs.Terms.{inBlock}
 use Rattle.mat_elem.specs.Sums.{sumOver}
 use Rattle.mat_elem.specs.Operator.{stateOf, operator}
-use Rattle.mat_elem.specs.states.Sums.{Terms, State, Run, coefficientAt, elementAt, through, onKet, onBra, noPair, allPairs, stateTests, total, totalOf}
+use Rattle.mat_elem.specs.states.Sums.{Terms, State, Run, coefficientAt, elementAt, through, onKet, onBra, noPair, allPairs, stateLines, total, totalOf}
 use Rattle.mat_elem.specs.states.Vectors.{vectorOf, between, MatElem}
 use Rattle.mat_elem.specs.declared.states.Total.{Total}
 use Rattle.mat_elem.specs.declared.states.Total.the-variants.{Sum, Refused}
@@ -114,7 +114,7 @@ module _ (A : Terms) (bra ket : State) where
 length-state : (n w : ℕ) → n ≤ 64 → length (stateOf n w) ≡ n
 length-state n w l = ap length (take-bits n 64 w l) ∙ length-bits n w
 
-module _ (n : ℕ) (A : Terms) (bra ket : State) (e : fault (stateTests n A bra ket) ≡ 0) (low : Words n A bra ket e) where
+module _ (n : ℕ) (A : Terms) (bra ket : State) (e : byRank (stateLines n A bra ket) ≡ 0) (low : Words n A bra ket e) where
   element-entry : (i j : ℕ) → i < length (bra .words) → j < length (ket .words)
       → operator n (A .xs) (A .zs) (A .re) (A .im) (stateOf n (getD (bra .words) i 0)) (stateOf n (getD (ket .words) j 0)) ≡ elementAt A (getD (bra .words) i 0) (getD (ket .words) j 0)
   element-entry i j h k =
@@ -147,7 +147,7 @@ given-sum (suc k) r u v q = let no : _≡_ {A = ℕ} 0 1 = cc in absurd (omega a
 
 pub mat-elem : (n : ℕ) (A : Terms) (bra ket : State) {r : Total} → r ≡ totalOf n A bra ket → Fit (A .xs) → Fit (A .zs) → Fit (bra .words) → Fit (ket .words) → MatElem n A bra ket r
 unfolding totalOf
-mat-elem n A bra ket {r} e fx fz fb fk = record { answer = e; meaning = λ u v q. go u v (given-sum (fault (stateTests n A bra ket)) (allPairs A bra ket) u v (sym e ∙ q)) }
+mat-elem n A bra ket {r} e fx fz fb fk = record { answer = e; meaning = λ u v q. go u v (given-sum (byRank (stateLines n A bra ket)) (allPairs A bra ket) u v (sym e ∙ q)) }
   where
-    go : (u v : ℤ) → (fault (stateTests n A bra ket) ≡ 0) × (gauss u v ≡ allPairs A bra ket .sum) → gauss u v ≡ between n A bra ket
+    go : (u v : ℤ) → (byRank (stateLines n A bra ket) ≡ 0) × (gauss u v ≡ allPairs A bra ket .sum) → gauss u v ≡ between n A bra ket
     go u v g = g .1 ∙ sum-between n A bra ket (g .0) (tests-words n A bra ket (g .0) fx fz fb fk)

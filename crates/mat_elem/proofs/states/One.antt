@@ -15,12 +15,13 @@ use mir.Val.{SFits}
 use Rattle.pauli.specs.Gauss.{_⊗_, g1}
 use Rattle.pauli.proofs.GaussRing.{g1-⊗}
 use Rattle.pauli.proofs.Vectors.{g0-⊕}
-use Rattle.encoding.specs.Refusals.{fault, some}
-use Rattle.mat_elem.specs.Terms.{setFrom, hasBlock, linesTo10, termTests}
+use Rattle.encoding.specs.Refusals.{some}
+use Rattle.encoding.specs.Ranks.{byRank}
+use Rattle.mat_elem.specs.Terms.{setFrom, hasBlock, linesTo10, termLines}
 use Rattle.mat_elem.specs.whole.Sums.{complex, plus, termAt, blockSum, element, elementOf}
 use Rattle.mat_elem.specs.declared.whole.Complex.{Complex}
 use Rattle.mat_elem.specs.declared.states.Total.the-variants.{Sum}
-use Rattle.mat_elem.specs.states.Sums.{Terms, elementAt, through, allPairs, stateTests, total, totalOf}
+use Rattle.mat_elem.specs.states.Sums.{Terms, elementAt, through, allPairs, stateLines, total, totalOf}
 use Rattle.mat_elem.specs.states.Sizes.{sizeTo, stateSize, alone, asTotal}
 use Rattle.mat_elem.proofs.SumLaws.{sum-empty}
 use Rattle.mat_elem.proofs.states.Tests.{tests-ready}
@@ -41,11 +42,11 @@ one-size w = refl
 
 module _ (n : ℕ) (A : Terms) (bra ket : ℕ) where
   abbrev tests : ℕ
-  tests = fault (stateTests n A (alone bra) (alone ket))
+  tests = byRank (stateLines n A (alone bra) (alone ket))
 
-  same-tests : tests ≡ fault (termTests n (A .xs) (A .zs) (length (A .re)) (length (A .im)) bra ket)
+  same-tests : tests ≡ byRank (termLines n (A .xs) (A .zs) (length (A .re)) (length (A .im)) bra ket)
   unfolding some
-  same-tests = ap₂ (λ (x y : Bool). fault (linesTo10 n (A .xs) (A .zs) (length (A .re)) (length (A .im)) false false (x || y))) (or-false (setFrom n bra)) (or-false (setFrom n ket))
+  same-tests = ap₂ (λ (x y : Bool). byRank (linesTo10 n (A .xs) (A .zs) (length (A .re)) (length (A .im)) false false (x || y))) (or-false (setFrom n bra)) (or-false (setFrom n ket))
 
   one-sum : allPairs A (alone bra) (alone ket) .sum ≡ elementAt A bra ket
   unfolding through
@@ -74,7 +75,7 @@ module _ (n : ℕ) (A : Terms) (bra ket : ℕ) where
         found false e = ap (λ (c : Complex). Sum (c .re) (c .im)) (sum-empty plus (complex (pos 0) (pos 0)) (termAt (A .xs) (A .zs) (A .re) (A .im) ket) (A .xs) t e)
 
         go : (k : ℕ) → tests ≡ k → total tests (allPairs A (alone bra) (alone ket))
-            ≡ asTotal (element (fault (termTests n (A .xs) (A .zs) (length (A .re)) (length (A .im)) bra ket)) (hasBlock (A .xs) t) s)
+            ≡ asTotal (element (byRank (termLines n (A .xs) (A .zs) (length (A .re)) (length (A .im)) bra ket)) (hasBlock (A .xs) t) s)
         go zero e =
             rw (sym same-tests, e, one-fits e, one-sum)
             (found (hasBlock (A .xs) t) refl)

@@ -12,10 +12,10 @@ use lib.ListN.{length, getD}
 use Rattle.pauli.specs.Gauss.{Gauss, _⊕_, _⊗_, g0, gi, ipow}
 use Rattle.pauli.proofs.GaussRing.{by-parts, ⊗-assoc}
 use Rattle.pauli.proofs.Vectors.{⊗-g1}
-use Rattle.encoding.specs.Refusals.{fault}
-use Rattle.encoding.proofs.Faults.{First}
+use Rattle.encoding.specs.Ranks.{byRank}
+use Rattle.encoding.proofs.Ranks.{Given}
 use Rattle.encoding.proofs.WordLaws.{Fit}
-use Rattle.mat_elem.specs.Terms.{termTests, inBlock, hasBlock}
+use Rattle.mat_elem.specs.Terms.{termLines, inBlock, hasBlock}
 use Rattle.mat_elem.specs.Sums.{exponentOf, turned, stepIf, sumOver}
 use Rattle.mat_elem.specs.Operator.{stateOf, coefficient, operator}
 use Rattle.mat_elem.proofs.Entry.{adds, operator-entry}
@@ -83,7 +83,7 @@ differ = record {
 
 module _ (n : ℕ) (xs zs : List ℕ) (re im : List ℤ) (bra ket : ℕ) where
   abbrev number : ℕ
-  number = fault (termTests n xs zs (length re) (length im) bra ket)
+  number = byRank (termLines n xs zs (length re) (length im) bra ket)
 
   pub entry-of : number ≡ 0 → Fit xs → Fit zs → bra < 2 ^ 64 → ket < 2 ^ 64
       → valueOf (elementOf n xs zs re im bra ket) ≡ operator n xs zs re im (stateOf n bra) (stateOf n ket)
@@ -100,9 +100,9 @@ module _ (n : ℕ) (xs zs : List ℕ) (re im : List ℤ) (bra ket : ℕ) where
   mat-elem e fx fz hb hk = record { answer = e; entry = λ z. ap valueOf e ∙ entry-of z fx fz hb hk }
 
   -- ---- exactly when
-  pub refused-when : (j : ℕ) → (elementOf n xs zs re im bra ket ≡ Refused (suc j)) ↔ First (termTests n xs zs (length re) (length im) bra ket) j
+  pub refused-when : (j : ℕ) → (elementOf n xs zs re im bra ket ≡ Refused (suc j)) ↔ Given (suc j) (termLines n xs zs (length re) (length im) bra ket)
   unfolding elementOf
-  refused-when = any-refused Refused NoBlock _ differ (termTests n xs zs (length re) (length im) bra ket) (hasBlock xs (bitXor bra ket))
+  refused-when = any-refused Refused NoBlock _ differ (termLines n xs zs (length re) (length im) bra ket) (hasBlock xs (bitXor bra ket))
 
   pub none-when : (elementOf n xs zs re im bra ket ≡ NoBlock) ↔ ((number ≡ 0) × ((k : ℕ) → k < length xs → getD xs k 0 ≡ bitXor bra ket → ⊥))
   unfolding elementOf

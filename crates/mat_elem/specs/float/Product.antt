@@ -9,8 +9,9 @@ use lib.IntN.{pos}
 use lib.Dec.{T}
 use lib.Ieee.{Float, nan, inf, fin, binary64, add, sub, mul}
 use lib.ListN.{length, getD}
-use Rattle.encoding.specs.Refusals.{fault, someBelow}
-use Rattle.mat_elem.specs.Terms.{termTests, inBlock, hasBlock}
+use Rattle.encoding.specs.Refusals.{someBelow}
+use Rattle.encoding.specs.Ranks.{line, byRank}
+use Rattle.mat_elem.specs.Terms.{termLines, inBlock, hasBlock}
 use Rattle.mat_elem.specs.Sums.{exponentOf, sumOver}
 use Rattle.mat_elem.specs.float.Sums.{complex, plus, coefficient, plusZero, bothFinite, wild, element, elementOf}
 use Rattle.mat_elem.specs.declared.float.Complex.{Complex}
@@ -49,7 +50,7 @@ productTo z xs zs re im t ket n = sumOver (inBlock xs t) plus (complex plusZero 
 unfoldable pub productOf : (ℕ → Bool) → ℕ → List ℕ → List ℕ → List Float → List Float → ℕ → ℕ → Element
 productOf z n xs zs re im bra ket =
     element
-    (fault (termTests n xs zs (length re) (length im) bra ket ++ wild re im ∷ someBelow (suc (length xs)) (λ k. not (bothFinite (productTo z xs zs re im (bitXor bra ket) ket k))) ∷ []))
+    (byRank (termLines n xs zs (length re) (length im) bra ket ++ line 11 (wild re im) ∷ line 12 (someBelow (suc (length xs)) (λ k. not (bothFinite (productTo z xs zs re im (bitXor bra ket) ket k)))) ∷ []))
     (hasBlock xs (bitXor bra ket))
     (productTo z xs zs re im (bitXor bra ket) ket (length xs))
 

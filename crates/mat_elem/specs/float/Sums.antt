@@ -8,8 +8,9 @@ use lib.IntN.{pos}
 use lib.Ieee.{Float, nan, fin, binary64, add, neg}
 use lib.Ieee.Scale.{finite}
 use lib.ListN.{length, getD}
-use Rattle.encoding.specs.Refusals.{fault, some, someBelow}
-use Rattle.mat_elem.specs.Terms.{termTests, inBlock, hasBlock}
+use Rattle.encoding.specs.Refusals.{some, someBelow}
+use Rattle.encoding.specs.Ranks.{TableLine, line, byRank}
+use Rattle.mat_elem.specs.Terms.{termLines, inBlock, hasBlock}
 use Rattle.mat_elem.specs.Sums.{exponentOf, turned, sumOver, oneOf}
 use Rattle.mat_elem.specs.declared.float.Complex.{Complex}
 use Rattle.mat_elem.specs.declared.float.Element.{Element}
@@ -54,9 +55,9 @@ unfoldable pub overflows : List ℕ → List ℕ → List Float → List Float �
 overflows xs zs re im t ket = someBelow (suc (length xs)) (λ n. not (bothFinite (sumTo xs zs re im t ket n)))
 
 -- the lines 1 to 12
-abbrev pub floatTests : ℕ → List ℕ → List ℕ → List Float → List Float → ℕ → ℕ → List Bool
-floatTests n xs zs re im bra ket =
-    termTests n xs zs (length re) (length im) bra ket ++ wild re im ∷ overflows xs zs re im (bitXor bra ket) ket ∷ []
+abbrev pub floatLines : ℕ → List ℕ → List ℕ → List Float → List Float → ℕ → ℕ → List TableLine
+floatLines n xs zs re im bra ket =
+    termLines n xs zs (length re) (length im) bra ket ++ line 11 (wild re im) ∷ line 12 (overflows xs zs re im (bitXor bra ket) ket) ∷ []
 
 -- the table's number and the values of each case: the complex sum has two values, no block none, a refusal its number
 abbrev pub element : ℕ → Bool → Complex → Element
@@ -64,4 +65,4 @@ element k block s = oneOf Refused NoBlock (Sum (s .re) (s .im)) k block
 
 unfoldable pub elementOf : ℕ → List ℕ → List ℕ → List Float → List Float → ℕ → ℕ → Element
 elementOf n xs zs re im bra ket =
-    element (fault (floatTests n xs zs re im bra ket)) (hasBlock xs (bitXor bra ket)) (sumTo xs zs re im (bitXor bra ket) ket (length xs))
+    element (byRank (floatLines n xs zs re im bra ket)) (hasBlock xs (bitXor bra ket)) (sumTo xs zs re im (bitXor bra ket) ket (length xs))

@@ -8,7 +8,8 @@ use lib.Dec.{ltb, eqb}
 use lib.IntN.{ℤ}
 use lib.ListN.{length, getD}
 use Rattle.pauli.specs.Gauss.{Gauss, _⊕_, g0}
-use Rattle.encoding.specs.Refusals.{fault, some}
+use Rattle.encoding.specs.Refusals.{some}
+use Rattle.encoding.specs.Ranks.{TableLine, byRank}
 use Rattle.checked.specs.Range.{gauss, bothWithin, pairFits, pairOf}
 use Rattle.mat_elem.specs.Terms.{setFrom, linesTo10}
 use Rattle.mat_elem.specs.Operator.{coefficient}
@@ -52,16 +53,16 @@ abbrev pub badParts : ℕ → ℕ → ℕ → Bool
 badParts m reals imags = not (eqb reals m) || not (eqb imags m)
 
 -- 1 to 10, 4 in any word of the two lists too; of the parts only how many there are
-abbrev pub listTests : ℕ → List ℕ → List ℕ → ℕ → ℕ → List ℕ → ℕ → ℕ → List ℕ → ℕ → ℕ → List Bool
-listTests n xs zs reals imags bras breals bimags kets kreals kimags =
+abbrev pub listLines : ℕ → List ℕ → List ℕ → ℕ → ℕ → List ℕ → ℕ → ℕ → List ℕ → ℕ → ℕ → List TableLine
+listLines n xs zs reals imags bras breals bimags kets kreals kimags =
     linesTo10 n xs zs reals imags
     (tooLong bras || tooLong kets)
     (badParts (length bras) breals bimags || badParts (length kets) kreals kimags)
     (some (setFrom n) bras || some (setFrom n) kets)
 
-abbrev pub stateTests : ℕ → Terms → State → State → List Bool
-stateTests n A bra ket =
-    listTests n (A .xs) (A .zs) (length (A .re)) (length (A .im))
+abbrev pub stateLines : ℕ → Terms → State → State → List TableLine
+stateLines n A bra ket =
+    listLines n (A .xs) (A .zs) (length (A .re)) (length (A .im))
     (bra .words) (length (bra .re)) (length (bra .im))
     (ket .words) (length (ket .re)) (length (ket .im))
 
@@ -106,4 +107,4 @@ total zero r = cond (r .fits) (Sum (r .sum .re) (r .sum .im)) (Refused 16)
 total (suc k) r = Refused (suc k)
 
 unfoldable pub totalOf : ℕ → Terms → State → State → Total
-totalOf n A bra ket = total (fault (stateTests n A bra ket)) (allPairs A bra ket)
+totalOf n A bra ket = total (byRank (stateLines n A bra ket)) (allPairs A bra ket)

@@ -7,8 +7,8 @@ use lib.Bits.{bitXor}
 use lib.IntN.{ℤ, pos, negℤ, _+ℤ_}
 use lib.ListN.{length, getD}
 use Rattle.pauli.specs.Gauss.{Gauss, g0}
-use Rattle.encoding.specs.Refusals.{fault}
-use Rattle.mat_elem.specs.Terms.{termTests, inBlock, hasBlock}
+use Rattle.encoding.specs.Ranks.{byRank}
+use Rattle.mat_elem.specs.Terms.{termLines, inBlock, hasBlock}
 use Rattle.mat_elem.specs.Sums.{exponentOf, turned, sumOver, oneOf}
 use Rattle.mat_elem.specs.Operator.{stateOf, operator}
 use Rattle.mat_elem.specs.declared.whole.Complex.{Complex}
@@ -39,7 +39,7 @@ element k block s = oneOf Refused NoBlock (Sum (s .re) (s .im)) k block
 
 unfoldable pub elementOf : ℕ → List ℕ → List ℕ → List ℤ → List ℤ → ℕ → ℕ → Element
 elementOf n xs zs re im bra ket =
-    element (fault (termTests n xs zs (length re) (length im) bra ket)) (hasBlock xs (bitXor bra ket)) (blockSum xs zs re im (bitXor bra ket) ket)
+    element (byRank (termLines n xs zs (length re) (length im) bra ket)) (hasBlock xs (bitXor bra ket)) (blockSum xs zs re im (bitXor bra ket) ket)
 
 -- the number that an answer stands for; no block stands for zero
 abbrev pub valueOf : Element → Gauss
@@ -50,4 +50,4 @@ valueOf (Refused k) = g0
 -- the whole of the call: its answer, and that this, where nothing is refused, is the entry of the operator's matrix between bra and ket
 pub record MatElem (n : ℕ) (xs zs : List ℕ) (re im : List ℤ) (bra ket : ℕ) (r : Element) : Type 0 where
   pub answer : r ≡ elementOf n xs zs re im bra ket
-  pub entry : fault (termTests n xs zs (length re) (length im) bra ket) ≡ 0 → valueOf r ≡ operator n xs zs re im (stateOf n bra) (stateOf n ket)
+  pub entry : byRank (termLines n xs zs (length re) (length im) bra ket) ≡ 0 → valueOf r ≡ operator n xs zs re im (stateOf n bra) (stateOf n ket)

@@ -1,5 +1,6 @@
+-- No loop: at a number all is as it was (`refusing`); where there is none, every test has passed, and the worker's verdict is the call's
+-- (`judging`).
 use borrow.Author.Needs.{needs}
-use native.Mathlib.Omega.{arith}
 use Rattle.encoding.specs.Set.{memOf}
 use Rattle.replay.specs.Check.{task, claim}
 use Rattle.replay.proofs.Faults.{refusing, judging}
@@ -10,7 +11,6 @@ use Rattle.replay.proofs.check.Lts as lts
 use Rattle.replay.proofs.check_fault.Reads as check-fault-reads
 use Rattle.replay.proofs.judge.Reads as judge-reads
 
--- At a number all is as it was (`refusing`); where there is none, every test has passed, and the worker's verdict is the call's (`judging`).
 returns : tie.Need-returns
 returns c =
     let s = c .before .before .before .before .before .before .before .before .before .before .before .before .before .before .before in

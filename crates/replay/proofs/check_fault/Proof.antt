@@ -1,5 +1,6 @@
+-- No loop: the smaller of the numbers of what was to be reduced and of what is claimed, or else that of the log, is the first line by rank
+-- (`check-number`); 0 leaves what each part says (`check-passed`).
 use borrow.Author.Needs.{needs}
-use native.Mathlib.Omega.{arith}
 use mathlib.Core.Path.{refl}
 use Rattle.encoding.specs.Set.{memOf}
 use Rattle.replay.specs.Check.{task, claim}

@@ -4,7 +4,7 @@ use borrow.Author.Needs.{needs}
 use mathlib.Core.Path.{refl}
 use Rattle.encoding.specs.Set.{memOf}
 use Rattle.replay.specs.Check.{task, claim}
-use Rattle.replay.specs.Steps.{redone}
+use Rattle.replay.specs.Workers.{redone}
 use Rattle.replay.proofs.Judging.{few, judge-bad, judge-passed, judge-end}
 use Rattle.replay.proofs.judge.Statement.{statement}
 use Rattle.replay.proofs.judge.Tie as tie

@@ -7,7 +7,7 @@ use borrow.Author.Tests.{not-true, not-false}
 use borrow.Author.Needs.{needs}
 use lib.ListN.{length, drop}
 use Rattle.reduction.specs.Log.{pairs}
-use Rattle.replay.specs.Steps.{goodBy, firstBadBy}
+use Rattle.replay.specs.Workers.{goodBy, firstBadBy}
 use Rattle.replay.proofs.Log.{bad-here, bad-next, bad-end}
 use Rattle.replay.proofs.entries.first_bad_by.Statement.{statement}
 use Rattle.replay.proofs.entries.first_bad_by.Tie as tie

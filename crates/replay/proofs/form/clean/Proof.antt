@@ -7,7 +7,7 @@ use borrow.Author.Tests.{not-true, not-false}
 use borrow.Author.Needs.{needs}
 use lib.ListN.{length, drop}
 use Rattle.reduction.specs.Lists.{every}
-use Rattle.replay.specs.Steps.{offIn}
+use Rattle.replay.specs.Workers.{offIn}
 use Rattle.replay.proofs.Looks.{every-here, every-next, every-end}
 use Rattle.replay.proofs.form.clean.Statement.{statement}
 use Rattle.replay.proofs.form.clean.Tie as tie

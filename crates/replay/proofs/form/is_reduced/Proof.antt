@@ -8,8 +8,8 @@ use borrow.Author.Tests.{not-true, not-false}
 use borrow.Author.Needs.{needs}
 use lib.ListN.{length, drop}
 use Rattle.reduction.specs.Form.{reducedFrom, reduced}
-use Rattle.terms.specs.Leaves.{bitIn}
-use Rattle.replay.specs.Steps.{self}
+use Rattle.terms.specs.Workers.{bitIn}
+use Rattle.replay.specs.Workers.{self}
 use Rattle.replay.proofs.Looks.{test-next, test-end}
 use Rattle.replay.proofs.form.is_reduced.Statement.{statement}
 use Rattle.replay.proofs.form.is_reduced.Tie as tie

@@ -7,7 +7,7 @@ use borrow.Author.Needs.{needs}
 use lib.ListN.{length, take}
 use Rattle.encoding.specs.Set.{memOf}
 use Rattle.reduction.specs.Log.{pairs}
-use Rattle.replay.specs.Steps.{redone}
+use Rattle.replay.specs.Workers.{redone}
 use Rattle.replay.proofs.Log.{redo-more}
 use Rattle.replay.proofs.rows.redo.Statement.{statement}
 use Rattle.replay.proofs.rows.redo.Tie as tie

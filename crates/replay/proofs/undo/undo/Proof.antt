@@ -1,4 +1,5 @@
--- `replay::undo::undo` meets its contract. Assumes nothing.
+-- No loop: at a number the rows are as they were (`undo-refusing`); where there is none the lists are as the walk asks (`undo-passed`), and what it leaves
+-- is the call's (`undo-walking`).
 use borrow.Author.Needs.{needs}
 use Rattle.encoding.specs.Set.{memOf}
 use Rattle.replay.proofs.Walking.{undo-passed, undo-refusing, undo-walking}

@@ -1,6 +1,7 @@
-use Rattle.row_text.proofs.Kit.{List, Pauli, subst, arith, needs}
+use Rattle.row_text.proofs.Kit.{List, Pauli, subst, needs}
 use Rattle.encoding.specs.Set.{memOf}
-use Rattle.row_text.specs.Calls.{tooShort, TextWritten}
+use Rattle.row_text.specs.Calls.{TextWritten}
+use Rattle.row_text.specs.Workers.{tooShort}
 use Rattle.row_text.proofs.Putting.{row-ps}
 use Rattle.row_text.proofs.fmt.fmt_at.Statement.{statement}
 use Rattle.row_text.proofs.fmt.fmt_at.Tie as tie

@@ -1,4 +1,4 @@
-use Rattle.row_text.proofs.Kit.{List, [], _∷_, length, arith, needs}
+use Rattle.row_text.proofs.Kit.{[], _∷_, arith, needs}
 use Rattle.row_text.proofs.Putting.{puts, puts-long, puts-both}
 use Rattle.row_text.proofs.fmt.put_behind.Statement.{statement}
 use Rattle.row_text.proofs.fmt.put_behind.Tie as tie

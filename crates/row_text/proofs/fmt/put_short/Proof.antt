@@ -1,4 +1,4 @@
-use Rattle.row_text.proofs.Kit.{subst, List, [], _∷_, _+_, ℕ, length, arith, needs}
+use Rattle.row_text.proofs.Kit.{subst, [], _∷_, _+_, ℕ, arith, needs}
 use Rattle.text.specs.Readers.{Wrote}
 use Rattle.text.specs.Numbers.{numeral}
 use Rattle.row_text.proofs.Putting.{puts, puts-long, puts-both}

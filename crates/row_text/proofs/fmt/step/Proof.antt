@@ -1,4 +1,4 @@
-use Rattle.row_text.proofs.Kit.{ap, _∙_, arith, needs}
+use Rattle.row_text.proofs.Kit.{ap, _∙_, needs}
 use Rattle.row_text.specs.Workers.{letter}
 use Rattle.row_text.proofs.Putting.{step-word, step-qubit}
 use Rattle.row_text.proofs.fmt.step.Statement.{statement}

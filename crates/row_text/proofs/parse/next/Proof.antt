@@ -1,4 +1,4 @@
-use Rattle.row_text.proofs.Kit.{arith, needs}
+use Rattle.row_text.proofs.Kit.{needs}
 use Rattle.row_text.specs.Workers.{left}
 use Rattle.row_text.proofs.Scanning.{next-pauli}
 use Rattle.row_text.proofs.parse.next.Statement.{statement}

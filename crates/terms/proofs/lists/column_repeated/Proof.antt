@@ -1,7 +1,7 @@
 use borrow.Author.Needs.{needs}
 use Prim.Native.Nat.{_+_}
 use Rattle.encoding.specs.Limits.{maxQubits}
-use Rattle.terms.proofs.Scans.{zeros}
+use Rattle.late.proofs.Scratch.{zeros}
 use Rattle.terms.proofs.lists.column_repeated.Statement.{statement}
 use Rattle.terms.proofs.lists.column_repeated.Tie as tie
 

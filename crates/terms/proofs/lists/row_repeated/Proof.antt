@@ -1,6 +1,6 @@
 use borrow.Author.Needs.{needs}
 use Rattle.encoding.specs.Limits.{maxRows}
-use Rattle.terms.proofs.Scans.{zeros}
+use Rattle.late.proofs.Scratch.{zeros}
 use Rattle.terms.proofs.lists.row_repeated.Statement.{statement}
 use Rattle.terms.proofs.lists.row_repeated.Tie as tie
 

@@ -1,7 +1,7 @@
 -- What is left of the order, done from here, is the whole order done from the start, and t is at most the number of listed rows (`Going`). A column
 -- that fills the log ends it (`going-full`), any other goes one column on (`going-next`).
 use Rattle.terms.proofs.Steps.{does-as, Going, going-start, going-next, going-full, going-end}
-use Rattle.terms.specs.Work.{runOf, start}
+use Rattle.terms.specs.Workers.{runOf, start}
 use Rattle.reduction.specs.Workers.{columnC}
 use Rattle.reduction.specs.Log.{capacity}
 use Rattle.encoding.specs.Set.{memOf}

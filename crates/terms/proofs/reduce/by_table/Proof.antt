@@ -1,3 +1,5 @@
+-- `late` does the run or does nothing where it is not asked for; what this function asks is what `late` tests, so the run is done (`reduces-does`). Lengths
+-- are kept by it.
 use borrow.Author.Needs.{needs}
 use Rattle.late.proofs.Scratch.{reduces-does}
 use Rattle.terms.proofs.reduce.by_table.Statement.{statement}

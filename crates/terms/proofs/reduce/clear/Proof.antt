@@ -1,7 +1,7 @@
 -- What is left of the list, done from here, is the whole list done from the start; the log so far, and what lies past it, are kept (`Going`). A
 -- turn that fills the log ends it (`going-full`), any other goes one row on (`going-next`).
 use Rattle.terms.proofs.Steps.{does-as, Going, going-start, going-next, going-full, going-end}
-use Rattle.terms.specs.Work.{runOf}
+use Rattle.terms.specs.Workers.{runOf}
 use Rattle.reduction.specs.Workers.{turnC}
 use Rattle.reduction.specs.Log.{capacity}
 use Rattle.encoding.specs.Set.{memOf}

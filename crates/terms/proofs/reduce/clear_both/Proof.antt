@@ -2,7 +2,7 @@
 -- fills the log, the second is not begun, and a full run stays as it is (`does-full`).
 use Rattle.reduction.proofs.Pieces.{through-append}
 use Rattle.terms.proofs.Steps.{does-as, does-then, does-full, ready-next}
-use Rattle.terms.specs.Work.{runOf}
+use Rattle.terms.specs.Workers.{runOf}
 use Rattle.reduction.specs.Workers.{through, turnC}
 use Rattle.reduction.specs.Log.{capacity}
 use Rattle.encoding.specs.Set.{memOf}

@@ -1,3 +1,5 @@
+-- Either way, the loops or the table, has the contract of the whole: what is asked goes down as it is, and what is left comes back as it is, lengths
+-- included.
 use Rattle.terms.proofs.reduce.columns.Statement.{statement}
 use Rattle.terms.proofs.reduce.columns.Tie as tie
 

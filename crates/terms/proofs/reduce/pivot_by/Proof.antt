@@ -1,7 +1,7 @@
 -- First the pivot is multiplied by the row found, if that is another, then the column is cleared: two pieces of a run, one after the other
 -- (`does-then`). If the first fills the log, the second is not begun (`does-full`).
 use Rattle.terms.proofs.Steps.{does-as, does-then, does-full, ready-next}
-use Rattle.terms.specs.Work.{runOf}
+use Rattle.terms.specs.Workers.{runOf}
 use Rattle.reduction.specs.Workers.{through, turnC, pivotC}
 use Rattle.reduction.specs.Log.{capacity}
 use mathlib.Core.List.{_++_}

@@ -1,7 +1,7 @@
 -- i and the first place from i on are together t and the first place from t on: at a row with the bit the first place from i is 0 (`place-here`), at
 -- any other it is one more than from i + 1 (`place-next`), and past the end it is 0 (`place-end`).
 use Rattle.reduction.proofs.Places.{place-here, place-next, place-end}
-use Rattle.terms.specs.Leaves.{bitIn, firstPlace}
+use Rattle.terms.specs.Workers.{bitIn, firstPlace}
 use borrow.Author.Needs.{needs}
 use native.Mathlib.Omega.{arith}
 use mathlib.Core.Path.{_≡_, refl, sym, _∙_}

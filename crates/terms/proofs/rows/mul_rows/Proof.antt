@@ -1,7 +1,7 @@
 -- Rows a and b start at a × w and b × w, which fit a machine word since rows and words are few (`small-start`). The leaf's product of the two
 -- parts is the product of the rows (`rows-multiplied`).
 use Rattle.terms.proofs.InSet.{rows-multiplied}
-use Rattle.terms.proofs.Columns.{small-start}
+use Rattle.late.proofs.View.{small-start}
 use mathlib.Core.Path.{refl}
 use native.Mathlib.Omega.{arith}
 use borrow.Author.Needs.{needs}

@@ -1,19 +1,26 @@
--- What the leaves give that reducer and checker share: a column of a row, the first place with it set, a row multiplied by another. They take any
--- input; of a row set, proofs/RowView.antt says that they are `bitRow`, `first` and `mulAt`. Assumes nothing.
+-- What the inner functions of this crate ask and leave: the leaves that reducer and checker share, which take any input (of a row set proofs/RowView.antt says
+-- that they are `bitRow`, `first` and `mulAt`), and the run that the reducer's workers stand for. The calls' contracts do not speak of it. Assumes nothing.
+use Prim.Native.Nat.{ℕ, _+_, _≤_, _<_, _-_, _*_, _/_, _%_}
 use mathlib.Core.Path.{_≡_}
-use mathlib.Core.Bool.{Bool, cond, _&&_}
+use mathlib.Core.Bool.{false, Bool, cond, _&&_}
 use mathlib.Core.List.{List, _++_}
-use Prim.Native.Nat.{ℕ, _+_, _-_, _*_, _/_, _%_, _≤_, _<_}
-use lib.Dec.{eqb, leb, ltb}
 use lib.ListN.{length, take, drop}
+use Rattle.encoding.specs.Set.{Mem, count, Sound, row, memOf, exponentAt, withExponent}
+pub use Rattle.reduction.specs.Workers.{Below}
+use Rattle.late.specs.declared.Progress.{Progress}
+pub use Rattle.late.specs.Workers.{Keeps, resultOf, start, Does, ListsIn, Blank}
+unfoldable pub use Rattle.late.specs.Workers.{runOf, outcome}
+use lib.Dec.{eqb, leb, ltb}
 use Rattle.pauli.specs.Pauli.{hasX, hasZ, mul, phases, clashes}
 use Rattle.encoding.specs.Limits.{maxQubits, maxRows, maxWords, wordsOf}
 use Rattle.encoding.specs.Words.{bitAt, unpack, pack}
-use Rattle.encoding.specs.Set.{row, Mem, memOf, count, exponentAt, withExponent}
-use Rattle.encoding.specs.Refusals.{fault, outTests}
+use Rattle.encoding.specs.Refusals.{outLines}
+use Rattle.encoding.specs.Ranks.{byRank}
 use Rattle.products.specs.Leaves.{Multiplied}
 unfoldable pub use Rattle.reduction.specs.Workers.{firstPlace}
 use Rattle.products.specs.declared.Factor.{Factor}
+
+-- ---- a column of a row, the first place with it set, a row multiplied by another
 
 -- column c of a row's two parts: X of qubit c, from n on Z of qubit c - n
 abbrev pub columnOf : ℕ → List ℕ → List ℕ → ℕ → Bool
@@ -25,7 +32,7 @@ bitIn n xs zs k c = (leb n maxQubits && ltb k maxRows) && columnOf n (row (words
 
 -- what refusals 1 to 3 ask of a set, and both rows are in it
 abbrev pub bothIn : ℕ → Mem → ℕ → ℕ → Bool
-bothIn n M a b = eqb (fault (outTests n M)) 0 && (ltb a (count M) && ltb b (count M))
+bothIn n M a b = eqb (byRank (outLines n M)) 0 && (ltb a (count M) && ltb b (count M))
 
 -- the words with others in the place of row r
 abbrev pub putRow : ℕ → ℕ → List ℕ → List ℕ → List ℕ
@@ -65,3 +72,11 @@ pub record RowsMultiplied (w a b : ℕ) (M M′ : Mem) (c : ℕ) : Type 0 where
   pub many : count M′ ≡ count M
   pub exponents : M′ .es ≡ withExponent (M .es) a ((exponentAt (M .es) a + exponentAt (M .es) b + factor .phase .0) % 4)
   pub number : c ≡ factor .clashes
+
+-- ---- the reducer: the row set in memory, the entries in the log, the run they stand for
+
+-- what every worker asks: a row set, room for the entries that are there, a run that goes on
+pub record Ready (n : ℕ) (M : Mem) (log : List ℕ) (s : Progress) : Type 0 where
+  pub sound : Sound n M
+  pub room : s .entries + s .entries ≤ length log
+  pub going : s .full ≡ false
