@@ -15,7 +15,7 @@ ghost use Rattle.row_text.specs.Calls.{FmtElem, ParseElem};
 ghost use Rattle.clifford.specs.Calls.{Conjugates};
 ghost use Rattle.mat_elem.specs.float.Product.{MatElem};
 ghost use Rattle.mat_elem.specs.whole.Sums as whole;
-ghost use Rattle.mat_elem.specs.Lent.{lent, termsLent, stateLent};
+ghost use Rattle.mat_elem.specs.Lent.{content, termsLent, stateLent};
 ghost use Rattle.mat_elem.specs.states.Vectors as states;
 ghost use Rattle.bawersun.specs.Told.{Told, Exactly, Gives, Number, numberOf};
 ghost use Rattle.bawersun.specs.Told.{pauliNumber, pauliOf, rowFor, gotSeen, tallySeen, truthBit, truthSeen, writtenSeen, phaseSeen, clashesSeen};
@@ -673,7 +673,7 @@ pub extern "C" fn bawersun_mat_elem_cmpnts_from_presorted_whole(
     real: &mut i64,
     imag: &mut i64,
 ) -> u8
-    ensures { λ r. ⌜ Told (whole.MatElem n (lent x) (lent z) (lent re) (lent im) bra ket)
+    ensures { λ r. ⌜ Told (whole.MatElem n (content x) (content z) (content re) (content im) bra ket)
         (Gives wholeSeen (parts (now (real .entry)) (now (imag .entry))) (parts (now (real .exit)) (now (imag .exit))) r) ⌝ }
 {
     let a = mat_elem::whole::mat_elem_cmpnts_from_presorted(n, x, z, re, im, bra, ket);

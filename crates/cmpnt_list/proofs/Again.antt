@@ -22,7 +22,7 @@ use Rattle.encoding.proofs.Faults.{done-none}
 use Rattle.encoding.proofs.Memory.{Proper, row-count}
 use Rattle.encoding.proofs.Again.{lay-passes, state-passes}
 use Rattle.products.proofs.Xor.{product-x, product-z, acted-xor}
-use Rattle.cmpnt_list.specs.Calls.{pairwiseFault, pairs, MulPairwise, ImulState}
+use Rattle.cmpnt_list.specs.Calls.{pairwiseFault, pairRows, MulPairwise, ImulState}
 use Rattle.cmpnt_list.specs.Workers.{BothReady}
 use Rattle.cmpnt_list.specs.declared.Phase.the-variants as phase
 use Rattle.cmpnt_list.proofs.Tests.{Words64, asked-of, pairwise-asked}
@@ -40,10 +40,10 @@ module _ (n : ℕ) {L R O O′ : Mem} {cs cs′ : List ℕ} (wl : Words64 L) (wr
   right-in : (k : ℕ) → k < count L → k < count R
   right-in k h = subst (λ (j : ℕ). k < j) (sym (c .one-m)) h
 
-  laid : O′ ≡ lay n (count L) (pairs n L R)
-  laid = c .rows ∙ ap (λ (k : ℕ). leftOr k O (lay n (count L) (pairs n L R))) none-fits
+  laid : O′ ≡ lay n (count L) (pairRows n L R)
+  laid = c .rows ∙ ap (λ (k : ℕ). leftOr k O (lay n (count L) (pairRows n L R))) none-fits
 
-  proper : Proper n (count L) (pairs n L R)
+  proper : Proper n (count L) (pairRows n L R)
   unfolding mulRow rowsIn
   proper =
       record {
@@ -56,19 +56,19 @@ module _ (n : ℕ) {L R O O′ : Mem} {cs cs′ : List ℕ} (wl : Words64 L) (wr
 
   -- every call that reads a set takes the third
   pub pairwise-again : byRank (setLines n O′) ≡ 0
-  pairwise-again = ap (λ (N : Mem). byRank (setLines n N)) laid ∙ lay-passes n (count L) (pairs n L R) (both .left .few-qubits) (both .left .few-rows) proper
+  pairwise-again = ap (λ (N : Mem). byRank (setLines n N)) laid ∙ lay-passes n (count L) (pairRows n L R) (both .left .few-qubits) (both .left .few-rows) proper
 
   -- its words
   pub pairwise-x : (k : ℕ) → k < count L → row (wordsOf n) k (O′ .xs) ≡ xors (row (wordsOf n) k (L .xs)) (row (wordsOf n) k (R .xs))
   unfolding layIn mulRow
   pairwise-x k h =
-      ap (λ (N : Mem). row (wordsOf n) k (N .xs)) laid ∙ row-lay-list hasX (wordsOf n) (count L) (λ j. pairs n L R j .ps) k h
+      ap (λ (N : Mem). row (wordsOf n) k (N .xs)) laid ∙ row-lay-list hasX (wordsOf n) (count L) (λ j. pairRows n L R j .ps) k h
       ∙ product-x n (wordsOf n) (both .left .valid) (both .right .valid) k k h (right-in k h) (wl .x-fit) (wr .x-fit)
 
   pub pairwise-z : (k : ℕ) → k < count L → row (wordsOf n) k (O′ .zs) ≡ xors (row (wordsOf n) k (L .zs)) (row (wordsOf n) k (R .zs))
   unfolding layIn mulRow
   pairwise-z k h =
-      ap (λ (N : Mem). row (wordsOf n) k (N .zs)) laid ∙ row-lay-list hasZ (wordsOf n) (count L) (λ j. pairs n L R j .ps) k h
+      ap (λ (N : Mem). row (wordsOf n) k (N .zs)) laid ∙ row-lay-list hasZ (wordsOf n) (count L) (λ j. pairRows n L R j .ps) k h
       ∙ product-z n (wordsOf n) (both .left .valid) (both .right .valid) k k h (right-in k h) (wl .z-fit) (wr .z-fit)
 
 -- ---- imul_state

@@ -36,7 +36,7 @@ use Rattle.encoding.proofs.BitLaws.{bit-lay}
 use Rattle.encoding.proofs.States.{state-long, length-state, state-back}
 use Rattle.encoding.proofs.Exponents.{exponent-small}
 use Rattle.encoding.proofs.Sets.{read-passes, same-phases}
-use Rattle.cmpnt_list.specs.Calls.{gotOr, tallyOr, phaseOr, truthOr, rowFault, rowsFault, qubitFault, matrixFault, pairwiseFault, actionFault, laidMatrix, commuting, pairs, pairNumbers, getQubit, SetQubit, countIn, phaseOfMul, commutesWith, belongsToCentralizer, CompatibilityMatrix, MulPairwise, ImulState}
+use Rattle.cmpnt_list.specs.Calls.{gotOr, tallyOr, phaseOr, truthOr, rowFault, rowsFault, qubitFault, matrixFault, pairwiseFault, actionFault, laidMatrix, commuting, pairRows, pairNumbers, getQubit, SetQubit, countIn, phaseOfMul, commutesWith, belongsToCentralizer, CompatibilityMatrix, MulPairwise, ImulState}
 use Rattle.cmpnt_list.specs.declared.Got.the-variants as got
 use Rattle.cmpnt_list.specs.declared.Tally.the-variants as tally
 use Rattle.cmpnt_list.specs.declared.Phase.{Phase}
@@ -182,8 +182,8 @@ module _ (n : ℕ) {L R O O′ : Mem} {cs cs′ : List ℕ} (wl : Words64 L) (wr
       let r = row-count n w (g .right .valid) k (subst (λ (j : ℕ). k < j) (sym (c .one-m)) h) in
       let p = rowsOf n L k .ps in
       let q = rowsOf n R k .ps in
-      ap (λ (N : Mem). rowsOf n N k) (c .rows ∙ ap (λ (j : ℕ). leftOr j O (lay n m (pairs n L R))) no-fault)
-      ∙ read-lay n w m (pairs n L R) (v .wide) k h (ap length (pad-mul p q (r ∙ sym l)) ∙ length-each _·_ p q (r ∙ sym l) ∙ l) (omega arith)
+      ap (λ (N : Mem). rowsOf n N k) (c .rows ∙ ap (λ (j : ℕ). leftOr j O (lay n m (pairRows n L R))) no-fault)
+      ∙ read-lay n w m (pairRows n L R) (v .wide) k h (ap length (pad-mul p q (r ∙ sym l)) ∙ length-each _·_ p q (r ∙ sym l) ∙ l) (omega arith)
 
   pub pairwise-meaning : (k : ℕ) → k < count L → Same n (times n (rowMatrix n (rowsOf n L k)) (rowMatrix n (rowsOf n R k))) (rowMatrix n (rowsOf n O′ k))
   pairwise-meaning k h =

@@ -29,7 +29,7 @@ use Rattle.encoding.proofs.Sets.{laid-by}
 use Rattle.products.specs.Leaves.{SameLength, ProductAt}
 use Rattle.products.specs.declared.Factor.{Factor}
 use Rattle.products.proofs.PartLaws.{row-other}
-use Rattle.cmpnt_list.specs.Calls.{pairs, pairNumbers}
+use Rattle.cmpnt_list.specs.Calls.{pairRows, pairNumbers}
 use Rattle.cmpnt_list.specs.Workers.{BothReady, ThirdReady, RowAt, wordEnd, rowsBefore, Written, PhasesOf}
 
 -- an exponent may be reduced before it is added
@@ -74,13 +74,13 @@ module _ (m j : ℕ) (h : j < phaseUnits m) where
 
 module _ (n : ℕ) (L R : Mem) (j : ℕ) where
   pub phases-none : PhasesOf n L R j (j * 32) 0
-  phases-none = record { fits = pow-pos 64; each = λ k i. in-none k ∙ sym (up-out (j * 32) (λ i. pairs n L R i .p) (j * 32 + k) (omega arith)) }
+  phases-none = record { fits = pow-pos 64; each = λ k i. in-none k ∙ sym (up-out (j * 32) (λ i. pairRows n L R i .p) (j * 32 + k) (omega arith)) }
 
   pub phases-all : {r m v : ℕ} → j < phaseUnits m → r ≡ wordEnd m j → PhasesOf n L R j r v → PhasesOf n L R j m v
   phases-all {r} {m} {v} h e f = record { fits = f .fits; each = λ k i. f .each k i ∙ at k i (decLt (j * 32 + k) r) }
     where
       g : ℕ → ℕ
-      g i = pairs n L R i .p
+      g i = pairRows n L R i .p
 
       at : (k : ℕ) → k < 32 → Dec (j * 32 + k < r) → inRows r g (j * 32 + k) ≡ inRows m g (j * 32 + k)
       at k i (yes l) = up-in r g (j * 32 + k) l ∙ sym (up-in m g (j * 32 + k) (let d = end-in m j h .0 in omega arith))
@@ -116,9 +116,9 @@ all-words m j e = go (decLt m (j * 32))
 
 -- words that are those of the product's phases, one after the other
 pub phases-laid : (n : ℕ) (L R : Mem) {m : ℕ} {es : List ℕ} → length es ≡ phaseUnits m → ((j : ℕ) → j < phaseUnits m → PhasesOf n L R j m (getD es j 0))
-    → es ≡ layExponents m (λ k. pairs n L R k .p)
+    → es ≡ layExponents m (λ k. pairRows n L R k .p)
 phases-laid n L R {m} {es} l f =
-    laid-words m (λ k. pairs n L R k .p) l fit
+    laid-words m (λ k. pairRows n L R k .p) l fit
     (λ j h k i. f j h .each k i ∙ (let e = f j h .each k i in let s = in-small (getD es j 0) k in omega arith))
   where
     fit : Fit es
@@ -142,8 +142,8 @@ numbered-all n {L} {R} {xs} {zs} {cs} c =
     ext-getD 0 cs (pairNumbers n L R) (c .c-long ∙ sym (length-list (count L) f))
     (λ k h. let i : k < count L = subst (λ (j : ℕ). k < j) (c .c-long) h in c .number k i ∙ sym (getD-list (count L) f k 0 i))
 
-pub written-all : (n : ℕ) {L R : Mem} {xs zs cs es : List ℕ} → Written n L R (count L) xs zs cs → es ≡ layExponents (count L) (λ k. pairs n L R k .p)
-    → memOf (count L) xs zs es ≡ lay n (count L) (pairs n L R)
+pub written-all : (n : ℕ) {L R : Mem} {xs zs cs es : List ℕ} → Written n L R (count L) xs zs cs → es ≡ layExponents (count L) (λ k. pairRows n L R k .p)
+    → memOf (count L) xs zs es ≡ lay n (count L) (pairRows n L R)
 written-all n c e = laid-by (record { x-long = c .x-long; z-long = c .z-long; x-row = c .x-row; z-row = c .z-row }) e
 
 module _ (n : ℕ) {L R : Mem} (b : BothReady n L R) (same : count R ≡ count L) where
@@ -157,7 +157,7 @@ module _ (n : ℕ) {L R : Mem} (b : BothReady n L R) (same : count R ≡ count L
 
   module _ {ox oz ox′ oz′ : List ℕ} {r : ℕ} {p : Factor} (hr : r < count L)
       (q : ProductAt (r * wordsOf n) (r * wordsOf n + wordsOf n) (L .xs) (L .zs) (R .xs) (R .zs) ox oz ox′ oz′ p) where
-    one-exponent : {v : ℕ} → v ≡ (exponentAt (L .es) r + exponentAt (R .es) r + p .phase .0) % 4 → v ≡ pairs n L R r .p
+    one-exponent : {v : ℕ} → v ≡ (exponentAt (L .es) r + exponentAt (R .es) r + p .phase .0) % 4 → v ≡ pairRows n L R r .p
     unfolding mulRow rowsIn
     one-exponent hv =
         let x = exponentAt (L .es) r in
@@ -176,11 +176,11 @@ module _ (n : ℕ) {L R : Mem} (b : BothReady n L R) (same : count R ≡ count L
           z-long = q .z-rest .long ∙ h .z-long;
           c-long = length-set cs r (p .clashes) ∙ h .c-long;
           x-row =
-              below-more (λ (k : ℕ). row w k ox′ ≡ pack hasX w (pairs n L R k .ps)) r
+              below-more (λ (k : ℕ). row w k ox′ ≡ pack hasX w (pairRows n L R k .ps)) r
               (λ k i. row-other w k r (q .x-rest) (ne-of-lt i) ∙ h .x-row k i)
               (q .here .x-words ∙ ap (λ (j : ℕ). pack hasX j (mul (inWords w L r) (inWords w R r))) long ∙ product-is n w l R (b .right .valid) hasX refl r r hr hr′);
           z-row =
-              below-more (λ (k : ℕ). row w k oz′ ≡ pack hasZ w (pairs n L R k .ps)) r
+              below-more (λ (k : ℕ). row w k oz′ ≡ pack hasZ w (pairRows n L R k .ps)) r
               (λ k i. row-other w k r (q .z-rest) (ne-of-lt i) ∙ h .z-row k i)
               (q .here .z-words ∙ ap (λ (j : ℕ). pack hasZ j (mul (inWords w L r) (inWords w R r))) long ∙ product-is n w l R (b .right .valid) hasZ refl r r hr hr′);
           number =
@@ -202,7 +202,7 @@ module _ (n : ℕ) {L R : Mem} (b : BothReady n L R) (same : count R ≡ count L
           (subst (λ (i : ℕ). ProductAt a i (L .xs) (L .zs) (R .xs) (R .zs) ox oz ox′ oz′ p) (at .to) q)
 
       g : ℕ → ℕ
-      g i = pairs n L R i .p
+      g i = pairRows n L R i .p
 
       here : (k : ℕ) → k ≡ r % 32 → j * 32 + k ≡ r
       here k i = omega arith

@@ -111,8 +111,8 @@ clashLines m q = line 3 (not (eqb q m)) ∷ []
 abbrev pub pairwiseFault : ℕ → Mem → Mem → Mem → ℕ → ℕ
 pairwiseFault n L R O q = byRank (joined (joined (setLines n L) (setLines n R)) (joined (clashLines (count L) q) (outLines n O)))
 
-abbrev pub pairs : ℕ → Mem → Mem → ℕ → Row
-pairs n L R k = mulRow n (rowsOf n L k) (rowsOf n R k)
+abbrev pub pairRows : ℕ → Mem → Mem → ℕ → Row
+pairRows n L R k = mulRow n (rowsOf n L k) (rowsOf n R k)
 
 abbrev pub pairNumbers : ℕ → Mem → Mem → List ℕ
 pairNumbers n L R = list (count L) (λ k. clashesOf n (rowsOf n L k) (rowsOf n R k))
@@ -121,7 +121,7 @@ pub record MulPairwise (n : ℕ) (L R O O′ : Mem) (cs cs′ : List ℕ) (a : A
   -- both have the m of the call
   pub one-m : count R ≡ count L
   pub answer : a ≡ doneOr (pairwiseFault n L R O (length cs))
-  pub rows : O′ ≡ leftOr (pairwiseFault n L R O (length cs)) O (lay n (count L) (pairs n L R))
+  pub rows : O′ ≡ leftOr (pairwiseFault n L R O (length cs)) O (lay n (count L) (pairRows n L R))
   pub numbers : cs′ ≡ leftOr (pairwiseFault n L R O (length cs)) cs (pairNumbers n L R)
 
 -- ---- imul_state: row r acts on a lent basis state of w words

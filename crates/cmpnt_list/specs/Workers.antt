@@ -13,7 +13,7 @@ use Rattle.pauli.specs.Rows.{clashesOf, holding, actOn, actPhaseOn}
 use Rattle.encoding.specs.Limits.{wordsOf}
 use Rattle.encoding.specs.Words.{pack}
 use Rattle.encoding.specs.Set.{row, Mem, count, phaseUnits, exponentIn, inRows, rowsOf, Sound, stateOf, layState}
-use Rattle.cmpnt_list.specs.Calls.{pairs}
+use Rattle.cmpnt_list.specs.Calls.{pairRows}
 
 -- a row set within the limits whose matrix is lent in size words
 pub record AskedMatrix (n : ℕ) (M : Mem) (size : ℕ) : Type 0 where
@@ -36,8 +36,8 @@ pub record Written (n : ℕ) (L R : Mem) (r : ℕ) (xs zs cs : List ℕ) : Type 
   pub x-long : length xs ≡ count L * wordsOf n
   pub z-long : length zs ≡ count L * wordsOf n
   pub c-long : length cs ≡ count L
-  pub x-row : (k : ℕ) → k < r → row (wordsOf n) k xs ≡ pack hasX (wordsOf n) (pairs n L R k .ps)
-  pub z-row : (k : ℕ) → k < r → row (wordsOf n) k zs ≡ pack hasZ (wordsOf n) (pairs n L R k .ps)
+  pub x-row : (k : ℕ) → k < r → row (wordsOf n) k xs ≡ pack hasX (wordsOf n) (pairRows n L R k .ps)
+  pub z-row : (k : ℕ) → k < r → row (wordsOf n) k zs ≡ pack hasZ (wordsOf n) (pairRows n L R k .ps)
   pub number : (k : ℕ) → k < r → getD cs k 0 ≡ clashesOf n (rowsOf n L k) (rowsOf n R k)
 
 -- the rows of phase word j end here, of m
@@ -51,7 +51,7 @@ rowsBefore m j = cond (ltb m (j * 32)) m (j * 32)
 -- word j of the product's phases, of which those below r are in it
 pub record PhasesOf (n : ℕ) (L R : Mem) (j r v : ℕ) : Type 0 where
   pub fits : v < 2 ^ 64
-  pub each : (k : ℕ) → k < 32 → exponentIn v k ≡ inRows r (λ i. pairs n L R i .p) (j * 32 + k)
+  pub each : (k : ℕ) → k < 32 → exponentIn v k ≡ inRows r (λ i. pairRows n L R i .p) (j * 32 + k)
 
 -- row r of m rows of w words is the part from a to e
 pub record RowAt (r w m a e : ℕ) : Type 0 where

@@ -12,7 +12,7 @@ ghost use Rattle.encoding.specs.Lent.{lent, before, after, bitsLent, bitsBefore
 ghost use Rattle.encoding.specs.Refusals.{setLines, outLines, stateLines};
 ghost use Rattle.encoding.specs.Ranks.{byRank, joined};
 ghost use Rattle.products.specs.Leaves.{SameLength, ProductAt};
-ghost use Rattle.cmpnt_list.specs.Calls.{matrixLines, matrixFault, laidMatrix, commuting, clashLines, pairs, pairNumbers, getQubit, SetQubit, countIn, phaseOfMul, commutesWith, belongsToCentralizer, CompatibilityMatrix, MulPairwise, ImulState};
+ghost use Rattle.cmpnt_list.specs.Calls.{matrixLines, matrixFault, laidMatrix, commuting, clashLines, pairRows, pairNumbers, getQubit, SetQubit, countIn, phaseOfMul, commutesWith, belongsToCentralizer, CompatibilityMatrix, MulPairwise, ImulState};
 ghost use Rattle.cmpnt_list.specs.Workers.{AskedMatrix, BothReady, ThirdReady, RowAt, wordEnd, Written, PhasesOf, masked, fromMasks, StateActed};
 use encoding::Answer;
 use pauli::ComplexSign;
@@ -554,7 +554,7 @@ fn mul_rows(
 )
     requires { ⌜ BothReady n (lent m lx lz lp) (lent m rx rz rp) ⌝ }
     requires { ⌜ ThirdReady n (length (now clashes)) (lent m ox oz op) ⌝ }
-    ensures { λ _. ⌜ (after m ox oz op ≡ lay n m (pairs n (before m lx lz lp) (before m rx rz rp))) ×
+    ensures { λ _. ⌜ (after m ox oz op ≡ lay n m (pairRows n (before m lx lz lp) (before m rx rz rp))) ×
         (now (clashes .exit) ≡ pairNumbers n (before m lx lz lp) (before m rx rz rp)) ⌝ }
 {
     let mut j = 0;

@@ -17,7 +17,7 @@ use Rattle.encoding.specs.Refusals.{some}
 use Rattle.encoding.proofs.Odd.{bit-odd, and-odd, or-odd, or-half, not-odd}
 use Rattle.encoding.proofs.Scan.{none-of, some-none}
 use Rattle.encoding.proofs.WordLaws.{half-lt, length-bits, Fit}
-use Rattle.mat_elem.specs.Terms.{setFrom, badBits}
+use Rattle.mat_elem.specs.Terms.{setFrom, highBits}
 use Rattle.mat_elem.specs.Workers.{Looked}
 
 same-leb : (a b c d : ℕ) → (a ≤ b → c ≤ d) → (c ≤ d → a ≤ b) → leb a b ≡ leb c d
@@ -65,7 +65,7 @@ pub record Low (n : ℕ) (xs zs : List ℕ) (beside : Bool) : Type 0 where
 pub low-list : (n : ℕ) (ws : List ℕ) → n ≤ 64 → some (setFrom n) ws ≡ false → Fit ws → (k : ℕ) → k < length ws → getD ws k 0 < 2 ^ n
 low-list n ws l e f k h = set-none n (getD ws k 0) l (f k .fits) (some-none (setFrom n) 0 ws e k h)
 
-pub low-of : (n : ℕ) (xs zs : List ℕ) (beside : Bool) → n ≤ 64 → badBits n xs zs beside ≡ false → Fit xs → Fit zs → Low n xs zs beside
+pub low-of : (n : ℕ) (xs zs : List ℕ) (beside : Bool) → n ≤ 64 → highBits n xs zs beside ≡ false → Fit xs → Fit zs → Low n xs zs beside
 low-of n xs zs beside l e fx fz =
     let a = some (setFrom n) xs in
     let b = some (setFrom n) zs in
@@ -120,7 +120,7 @@ module _ (n top : ℕ) (l : n ≤ 64) (e : suc top ≡ 2 ^ n) where
   set-above w h = from n 64 w l h ∙ ap (λ (b : ℕ). leb b w) (sym e)
 
 -- the line 4, by what one pass over the terms found
-pub bits-seen : (n : ℕ) {xs zs : List ℕ} (beside : Bool) {all : ℕ} {fell high : Bool} → Looked xs zs all fell → high ≡ setFrom n all → badBits n xs zs beside ≡ (high || beside)
+pub bits-seen : (n : ℕ) {xs zs : List ℕ} (beside : Bool) {all : ℕ} {fell high : Bool} → Looked xs zs all fell → high ≡ setFrom n all → highBits n xs zs beside ≡ (high || beside)
 bits-seen n beside s e = ap (λ (b : Bool). b || beside) (sym (e ∙ s .is-above n))
 
 -- ---- the difference of two words by halves: its highest bit tells which is below

@@ -14,15 +14,15 @@ use Rattle.encoding.specs.Ranks.{byRank}
 use Rattle.encoding.proofs.Faults.{orElse, or-none, or-first}
 use Rattle.encoding.proofs.Ranks.{none-holds, rank-append}
 use Rattle.encoding.proofs.Scan.{none-of}
-use Rattle.mat_elem.specs.Terms.{minQubits, maxQubits, maxTerms, tooMany, badLengths, setFrom, badBits, falls, linesTo10, termLines}
+use Rattle.mat_elem.specs.Terms.{leastQubits, mostQubits, maxTerms, tooMany, unlikeLengths, setFrom, highBits, falls, linesTo10, termLines}
 use Rattle.mat_elem.specs.Workers.{shapeLines, wordLines, blockFrom, blockTo, placeOf, foundOr, foundOf, BlockOf, PartOf}
 use Rattle.mat_elem.specs.declared.Place.{Place}
 use Rattle.mat_elem.specs.declared.Found.the-variants.{Block, Refused}
 use Rattle.mat_elem.proofs.Places.{block-of}
 
 pub record Shape (n m z reals imags : ℕ) : Type 0 where
-  pub least : minQubits ≤ n
-  pub most : n ≤ maxQubits
+  pub least : leastQubits ≤ n
+  pub most : n ≤ mostQubits
   pub short : m ≤ maxTerms
   pub z-long : z ≡ m
   pub re-long : reals ≡ m
@@ -38,14 +38,14 @@ pub shape-sound : (n m z reals imags : ℕ) (many unequal : Bool) → byRank (sh
 shape-sound n m z reals imags many unequal e =
     let no = none-holds (shapeLines n m z reals imags many unequal) refl e in
     let two = none-of many (tooMany m) (no 1) in
-    let three = none-of unequal (badLengths m z reals imags) (no 2) in
+    let three = none-of unequal (unlikeLengths m z reals imags) (no 2) in
     let zr = none-of (not (eqb z m) || not (eqb reals m)) (not (eqb imags m)) (three .1) in
     let zs = none-of (not (eqb z m)) (not (eqb reals m)) (zr .0) in
-    let r = none-of (ltb n minQubits) (ltb maxQubits n) (no 0) in
+    let r = none-of (ltb n leastQubits) (ltb mostQubits n) (no 0) in
     record {
       shape = record {
-        least = ltb-false n minQubits (r .0);
-        most = ltb-false maxQubits n (r .1);
+        least = ltb-false n leastQubits (r .0);
+        most = ltb-false mostQubits n (r .1);
         short = ltb-false maxTerms m (two .1);
         z-long = eqb-true z m (not-false _ (zs .0));
         re-long = eqb-true reals m (not-false _ (zs .1));
@@ -60,7 +60,7 @@ pub record Sound (n : ℕ) (xs zs : List ℕ) (reals imags : ℕ) (many unequal 
   pub shape : Shape n (length xs) (length zs) reals imags
   pub not-many : many ≡ false
   pub equal : unequal ≡ false
-  pub low : badBits n xs zs beside ≡ false
+  pub low : highBits n xs zs beside ≡ false
   pub rising : falls xs ≡ false
 
 module _ (n : ℕ) (xs zs : List ℕ) (reals imags : ℕ) (many unequal beside : Bool) where

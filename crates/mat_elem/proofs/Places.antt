@@ -92,25 +92,25 @@ module _ (xs : List ℕ) (t : ℕ) (e : falls xs ≡ false) where
   }
 
 -- ---- the block's end, found by going on from its start
-pub record Run (xs : List ℕ) (t last : ℕ) : Type 0 where
+pub record Running (xs : List ℕ) (t last : ℕ) : Type 0 where
   pub started : blockFrom xs t ≤ last
   pub within : last ≤ length xs
   pub below : (k : ℕ) → k < last → leb (getD xs k 0) t ≡ true
 
 module _ (xs : List ℕ) (t : ℕ) (e : falls xs ≡ false) where
-  pub run-none : Run xs t (blockFrom xs t)
+  pub run-none : Running xs t (blockFrom xs t)
   run-none =
       let s = from-split xs t e in
       record { started = le-refl (blockFrom xs t); within = s .within; below = λ k h. le-leb (getD xs k 0) t (omega (arith, ltb-true (getD xs k 0) t (s .before k h))) }
 
-  pub run-more : {last : ℕ} → Run xs t last → last < length xs → getD xs last 0 ≡ t → Run xs t (last + 1)
+  pub run-more : {last : ℕ} → Running xs t last → last < length xs → getD xs last 0 ≡ t → Running xs t (last + 1)
   run-more {last} r h q =
       record { started = omega (arith, r .started); within = omega arith; below = below-more (λ k. leb (getD xs k 0) t ≡ true) last (r .below) (le-leb (getD xs last 0) t (omega arith)) }
 
-  pub run-stop : {last : ℕ} → Run xs t last → last < length xs → (getD xs last 0 ≡ t → ⊥) → last ≡ blockTo xs t
+  pub run-stop : {last : ℕ} → Running xs t last → last < length xs → (getD xs last 0 ≡ t → ⊥) → last ≡ blockTo xs t
   run-stop {last} r h q =
       let s = ltb-false (getD xs last 0) t (from-split xs t e .after last (r .started) h) in
       sym (many-split (λ w. leb w t) xs last (r .within) (r .below) (λ k i l. lt-leb (getD xs k 0) t (lt-of-lt-of-le (lt-of-le-ne s (λ z. q (sym z))) (rising 0 xs e last k i l))))
 
-  pub run-end : {last : ℕ} → Run xs t last → length xs ≤ last → last ≡ blockTo xs t
+  pub run-end : {last : ℕ} → Running xs t last → length xs ≤ last → last ≡ blockTo xs t
   run-end {last} r h = sym (many-split (λ w. leb w t) xs last (r .within) (r .below) (λ k i l. absurd (omega arith)))

@@ -12,11 +12,11 @@ Words = RefT (List ℕ)
 abbrev Parts : Type 0
 Parts = RefT (List ℤ)
 
-abbrev pub lent : {A B : Type 0} → Both (RefT A) B → A
-lent x = now (x .entry)
+abbrev pub content : {A B : Type 0} → Both (RefT A) B → A
+content x = now (x .entry)
 
 abbrev pub termsLent : {A B C D : Type 0} → Both Words A → Both Words B → Both Parts C → Both Parts D → Terms
-termsLent x z re im = terms (lent x) (lent z) (lent re) (lent im)
+termsLent x z re im = terms (content x) (content z) (content re) (content im)
 
 abbrev pub stateLent : {A B C : Type 0} → Both Words A → Both Parts B → Both Parts C → State
-stateLent words re im = state (lent words) (lent re) (lent im)
+stateLent words re im = state (content words) (content re) (content im)

@@ -10,34 +10,34 @@ use Rattle.encoding.specs.Refusals.{some}
 use Rattle.encoding.specs.Ranks.{TableLine, line}
 
 -- n from 1 to 64; 0 to 65,536 terms
-abbrev pub minQubits : ℕ
-minQubits = 1
+abbrev pub leastQubits : ℕ
+leastQubits = 1
 
-abbrev pub maxQubits : ℕ
-maxQubits = 64
+abbrev pub mostQubits : ℕ
+mostQubits = 64
 
 abbrev pub maxTerms : ℕ
 maxTerms = 65536
 
 -- 1: n outside its range
 abbrev pub badCount : ℕ → Bool
-badCount n = ltb n minQubits || ltb maxQubits n
+badCount n = ltb n leastQubits || ltb mostQubits n
 
 -- 2: m terms, above 65,536
 abbrev pub tooMany : ℕ → Bool
 tooMany m = ltb maxTerms m
 
 -- 3: lengths not fitting: the Z words, the real and the imaginary parts are not as many as the m terms
-abbrev pub badLengths : ℕ → ℕ → ℕ → ℕ → Bool
-badLengths m z reals imags = not (eqb z m) || not (eqb reals m) || not (eqb imags m)
+abbrev pub unlikeLengths : ℕ → ℕ → ℕ → ℕ → Bool
+unlikeLengths m z reals imags = not (eqb z m) || not (eqb reals m) || not (eqb imags m)
 
 -- a bit of w is set at n or above
 abbrev pub setFrom : ℕ → ℕ → Bool
 setFrom n w = some (λ (b : Bool). b) (drop n (bits 64 w))
 
 -- 4: a bit set at n or above, in the terms or in the words beside them
-abbrev pub badBits : ℕ → List ℕ → List ℕ → Bool → Bool
-badBits n xs zs beside = some (setFrom n) xs || some (setFrom n) zs || beside
+abbrev pub highBits : ℕ → List ℕ → List ℕ → Bool → Bool
+highBits n xs zs beside = some (setFrom n) xs || some (setFrom n) zs || beside
 
 -- 10: X falls somewhere in the terms: a word is below the one before it. Below 0, which stands before the first, there is none
 unfoldable pub fallsAfter : ℕ → List ℕ → Bool
@@ -53,8 +53,8 @@ abbrev pub linesTo10 : ℕ → List ℕ → List ℕ → ℕ → ℕ → Bool �
 linesTo10 n xs zs reals imags many unequal beside =
     line 1 (badCount n)
     ∷ line 2 (many || tooMany (length xs))
-    ∷ line 3 (unequal || badLengths (length xs) (length zs) reals imags)
-    ∷ line 4 (badBits n xs zs beside)
+    ∷ line 3 (unequal || unlikeLengths (length xs) (length zs) reals imags)
+    ∷ line 4 (highBits n xs zs beside)
     ∷ line 10 (falls xs)
     ∷ []
 

@@ -12,7 +12,7 @@ use lib.ListN.{length, getD}
 use Rattle.pauli.specs.Gauss.{Gauss, g0}
 use Rattle.encoding.specs.Refusals.{some, someBelow}
 use Rattle.encoding.specs.Ranks.{TableLine, line, byRank}
-use Rattle.mat_elem.specs.Terms.{maxTerms, badCount, tooMany, badLengths, setFrom, badBits, falls, termLines}
+use Rattle.mat_elem.specs.Terms.{maxTerms, badCount, tooMany, unlikeLengths, setFrom, highBits, falls, termLines}
 use Rattle.mat_elem.specs.Sums.{sumOver}
 use Rattle.checked.specs.Workers.{answer, checkedPair, plusChecked}
 use Rattle.checked.specs.declared.CheckedComplex.{CheckedComplex}
@@ -32,10 +32,10 @@ use Rattle.mat_elem.specs.declared.float.Element.the-variants as floatEl
 -- ---- the table in two parts: what the lengths tell, and what the words tell
 
 abbrev pub shapeLines : ℕ → ℕ → ℕ → ℕ → ℕ → Bool → Bool → List TableLine
-shapeLines n m z reals imags many unequal = line 1 (badCount n) ∷ line 2 (many || tooMany m) ∷ line 3 (unequal || badLengths m z reals imags) ∷ []
+shapeLines n m z reals imags many unequal = line 1 (badCount n) ∷ line 2 (many || tooMany m) ∷ line 3 (unequal || unlikeLengths m z reals imags) ∷ []
 
 abbrev pub wordLines : ℕ → List ℕ → List ℕ → Bool → List TableLine
-wordLines n xs zs beside = line 4 (badBits n xs zs beside) ∷ line 10 (falls xs) ∷ []
+wordLines n xs zs beside = line 4 (highBits n xs zs beside) ∷ line 10 (falls xs) ∷ []
 
 -- ---- one pass over the terms: the bits set in some word, and falls
 pub record Looked (xs zs : List ℕ) (all : ℕ) (fell : Bool) : Type 0 where

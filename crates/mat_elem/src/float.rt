@@ -3,7 +3,7 @@ ghost use mathlib.Core.Path.{_≡_};
 ghost use Prim.Native.Nat.{_<_};
 ghost use lib.Ieee.Scale as Scale;
 ghost use lib.ListN.{length};
-ghost use Rattle.mat_elem.specs.Lent.{lent};
+ghost use Rattle.mat_elem.specs.Lent.{content};
 ghost use Rattle.mat_elem.specs.Workers.{PartOf, spanOf};
 ghost use Rattle.mat_elem.specs.float.Sums.{complex, turnedBy, plus, bothFinite, wild};
 ghost use Rattle.mat_elem.specs.float.Product.{MatElem};
@@ -71,7 +71,7 @@ fn step(s: Complex, re: f64, im: f64, k: ComplexSign) -> Complex
 // Whether a coefficient is not finite, in any term: one pass with no way out.
 fn some_wild(re: &[f64], im: &[f64]) -> bool
     requires { ⌜ length (now im) ≡ length (now re) ⌝ }
-    ensures { λ r. ⌜ r ≡ wild (lent re) (lent im) ⌝ }
+    ensures { λ r. ⌜ r ≡ wild (content re) (content im) ⌝ }
 {
     let mut bad = false;
     let mut i = 0;
@@ -93,7 +93,7 @@ fn block_sum(
     last: usize,
 ) -> Element
     requires { ⌜ PartOf first last (length (now x)) (length (now z)) (length (now re)) (length (now im)) ⌝ }
-    ensures { λ r. ⌜ r ≡ spanOf (lent x) (lent z) (lent re) (lent im) ket first last ⌝ }
+    ensures { λ r. ⌜ r ≡ spanOf (content x) (content z) (content re) (content im) ket first last ⌝ }
 {
     let mut i = first;
     let mut s = Complex { re: 0.0, im: 0.0 };
@@ -118,7 +118,7 @@ pub fn mat_elem_cmpnts_from_presorted(
     bra: u64,
     ket: u64,
 ) -> Element
-    ensures { λ r. ⌜ MatElem n (lent x) (lent z) (lent re) (lent im) bra ket r ⌝ }
+    ensures { λ r. ⌜ MatElem n (content x) (content z) (content re) (content im) bra ket r ⌝ }
 {
     let found = crate::find_block(n, x, z, re.len(), im.len(), bra, ket);
     match found {

@@ -5,8 +5,8 @@ ghost use Prim.Native.Nat.{suc, _^_, _≤_, _<_};
 ghost use lib.Dec.{ltb};
 ghost use lib.ListN.{length};
 ghost use Rattle.encoding.specs.Ranks.{byRank};
-ghost use Rattle.mat_elem.specs.Terms.{maxQubits, setFrom, falls, linesTo10};
-ghost use Rattle.mat_elem.specs.Lent.{lent};
+ghost use Rattle.mat_elem.specs.Terms.{mostQubits, setFrom, falls, linesTo10};
+ghost use Rattle.mat_elem.specs.Lent.{content};
 ghost use Rattle.mat_elem.specs.Workers.{shapeLines, wordLines, Looked, blockFrom, placeOf, foundOf};
 ghost use Rattle.mat_elem.specs.Sums.{exponentOf};
 use pauli::ComplexSign;
@@ -61,7 +61,7 @@ fn shape_fault(
 
 // The largest word of n bits.
 fn top_word(n: usize) -> u64
-    requires { ⌜ n < maxQubits ⌝ }
+    requires { ⌜ n < mostQubits ⌝ }
     ensures { λ r. ⌜ suc r ≡ 2 ^ n ⌝ }
 {
     (1u64 << n) - 1
@@ -95,7 +95,7 @@ fn borrow(a: u64, b: u64) -> u64
 
 fn look(x: &[u64], z: &[u64]) -> Seen
     requires { ⌜ length (now z) ≡ length (now x) ⌝ }
-    ensures { λ r. ⌜ Looked (lent x) (lent z) (r .all) (r .falls) ⌝ }
+    ensures { λ r. ⌜ Looked (content x) (content z) (r .all) (r .falls) ⌝ }
 {
     let mut all: u64 = 0;
     let mut fall: u64 = 0;
@@ -118,7 +118,7 @@ fn look(x: &[u64], z: &[u64]) -> Seen
 // The lines 4 to 10.
 fn word_fault(n: usize, x: &[u64], z: &[u64], beside: bool) -> u8
     requires { ⌜ length (now z) ≡ length (now x) ⌝ }
-    ensures { λ r. ⌜ r ≡ byRank (wordLines n (lent x) (lent z) beside) ⌝ }
+    ensures { λ r. ⌜ r ≡ byRank (wordLines n (content x) (content z) beside) ⌝ }
 {
     let seen = look(x, z);
     if above(n, seen.all) | beside {
@@ -141,7 +141,7 @@ pub(crate) fn term_fault(
     unequal: bool,
     beside: bool,
 ) -> u8
-    ensures { λ r. ⌜ r ≡ byRank (linesTo10 n (lent x) (lent z) reals imags many unequal beside) ⌝ }
+    ensures { λ r. ⌜ r ≡ byRank (linesTo10 n (content x) (content z) reals imags many unequal beside) ⌝ }
 {
     let shape = shape_fault(n, x.len(), z.len(), reals, imags, many, unequal);
     if shape != 0 {
@@ -153,7 +153,7 @@ pub(crate) fn term_fault(
 // Whether the word at place k is below t: then the block of t starts after it.
 fn is_below(x: &[u64], k: usize, t: u64) -> bool
     requires { ⌜ (falls (now x) ≡ false) × (k < length (now x)) ⌝ }
-    ensures { λ r. ⌜ r ≡ ltb k (blockFrom (lent x) t) ⌝ }
+    ensures { λ r. ⌜ r ≡ ltb k (blockFrom (content x) t) ⌝ }
 {
     x[k] < t
 }
@@ -161,7 +161,7 @@ fn is_below(x: &[u64], k: usize, t: u64) -> bool
 // The guess, where the block of t starts at it or after it, and else 0.
 fn low_end(x: &[u64], t: u64, guess: usize) -> usize
     requires { ⌜ falls (now x) ≡ false ⌝ }
-    ensures { λ r. ⌜ r ≤ blockFrom (lent x) t ⌝ }
+    ensures { λ r. ⌜ r ≤ blockFrom (content x) t ⌝ }
 {
     if guess == 0 {
         return 0;
@@ -175,7 +175,7 @@ fn low_end(x: &[u64], t: u64, guess: usize) -> usize
 // The guess, where the block of t starts at it or before it, and else the end.
 fn high_end(x: &[u64], t: u64, guess: usize) -> usize
     requires { ⌜ falls (now x) ≡ false ⌝ }
-    ensures { λ r. ⌜ (blockFrom (lent x) t ≤ r) × (r ≤ length (lent x)) ⌝ }
+    ensures { λ r. ⌜ (blockFrom (content x) t ≤ r) × (r ≤ length (content x)) ⌝ }
 {
     if x.len() <= guess {
         return x.len();
@@ -191,7 +191,7 @@ fn high_end(x: &[u64], t: u64, guess: usize) -> usize
 fn lower(x: &[u64], t: u64, low: usize, high: usize) -> usize
     requires { ⌜ falls (now x) ≡ false ⌝ }
     requires { ⌜ (low ≤ blockFrom (now x) t) × (blockFrom (now x) t ≤ high) × (high ≤ length (now x)) ⌝ }
-    ensures { λ r. ⌜ r ≡ blockFrom (lent x) t ⌝ }
+    ensures { λ r. ⌜ r ≡ blockFrom (content x) t ⌝ }
 {
     let mut lo = low;
     let mut hi = high;
@@ -209,7 +209,7 @@ fn lower(x: &[u64], t: u64, low: usize, high: usize) -> usize
 // The same, looked for between the guessed places first.
 fn start(x: &[u64], t: u64, guess: Place) -> usize
     requires { ⌜ falls (now x) ≡ false ⌝ }
-    ensures { λ r. ⌜ r ≡ blockFrom (lent x) t ⌝ }
+    ensures { λ r. ⌜ r ≡ blockFrom (content x) t ⌝ }
 {
     let low = low_end(x, t, guess.first);
     let high = high_end(x, t, guess.last);
@@ -219,7 +219,7 @@ fn start(x: &[u64], t: u64, guess: Place) -> usize
 // The run of words that are t.
 pub(crate) fn block(x: &[u64], t: u64, guess: Place) -> Place
     requires { ⌜ falls (now x) ≡ false ⌝ }
-    ensures { λ r. ⌜ r ≡ placeOf (lent x) t ⌝ }
+    ensures { λ r. ⌜ r ≡ placeOf (content x) t ⌝ }
 {
     let first = start(x, t, guess);
     let mut last = first;
@@ -242,7 +242,7 @@ pub(crate) fn find_block(
     bra: u64,
     ket: u64,
 ) -> Found
-    ensures { λ r. ⌜ r ≡ foundOf n (lent x) (lent z) reals imags bra ket ⌝ }
+    ensures { λ r. ⌜ r ≡ foundOf n (content x) (content z) reals imags bra ket ⌝ }
 {
     let beside = above(n, bra) | above(n, ket);
     let number = term_fault(n, x, z, reals, imags, false, false, beside);

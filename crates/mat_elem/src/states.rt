@@ -6,9 +6,9 @@ ghost use Rattle.encoding.specs.Refusals.{some};
 ghost use Rattle.encoding.specs.Ranks.{byRank};
 ghost use Rattle.checked.specs.Range.{gauss};
 ghost use Rattle.mat_elem.specs.Terms.{setFrom};
-ghost use Rattle.mat_elem.specs.Lent.{lent, termsLent, stateLent};
+ghost use Rattle.mat_elem.specs.Lent.{content, termsLent, stateLent};
 ghost use Rattle.mat_elem.specs.Workers.{Ready, Parted, overKets, overBras, totalOr};
-ghost use Rattle.mat_elem.specs.states.Sums.{listLines};
+ghost use Rattle.mat_elem.specs.states.Sums.{partLines};
 ghost use Rattle.mat_elem.specs.states.Vectors.{MatElem};
 use crate::guide;
 use crate::guide::STARTS;
@@ -25,7 +25,7 @@ pub enum Total {
 
 // Whether a word of the list has a bit set at n or above.
 fn some_above(n: usize, ws: &[u64]) -> bool
-    ensures { λ r. ⌜ r ≡ some (setFrom n) (lent ws) ⌝ }
+    ensures { λ r. ⌜ r ≡ some (setFrom n) (content ws) ⌝ }
 {
     let mut hit = false;
     let mut i = 0;
@@ -38,7 +38,7 @@ fn some_above(n: usize, ws: &[u64]) -> bool
 
 // What the two lists have of line 4.
 fn lists_above(n: usize, bras: &[u64], kets: &[u64]) -> bool
-    ensures { λ r. ⌜ r ≡ (some (setFrom n) (lent bras) || some (setFrom n) (lent kets)) ⌝ }
+    ensures { λ r. ⌜ r ≡ (some (setFrom n) (content bras) || some (setFrom n) (content kets)) ⌝ }
 {
     some_above(n, bras) | some_above(n, kets)
 }
@@ -57,7 +57,7 @@ fn states_fault(
     kreals: usize,
     kimags: usize,
 ) -> u8
-    ensures { λ r. ⌜ r ≡ byRank (listLines n (lent x) (lent z) reals imags (lent bras) breals bimags (lent kets) kreals kimags) ⌝ }
+    ensures { λ r. ⌜ r ≡ byRank (partLines n (content x) (content z) reals imags (content bras) breals bimags (content kets) kreals kimags) ⌝ }
 {
     let b = bras.len();
     let k = kets.len();

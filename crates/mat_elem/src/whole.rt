@@ -6,7 +6,7 @@ ghost use lib.IntN.{negℤ, _+ℤ_};
 ghost use lib.ListN.{length};
 ghost use mir.Syntax.{w64};
 ghost use mir.Val.{SFits};
-ghost use Rattle.mat_elem.specs.Lent.{lent};
+ghost use Rattle.mat_elem.specs.Lent.{content};
 ghost use Rattle.mat_elem.specs.Workers.{PartOf, partMax, sumMax, Within, partSum, Ready};
 ghost use Rattle.mat_elem.specs.whole.Sums.{complex, turnedBy, plus, blockSum, MatElem};
 use crate::Found;
@@ -95,7 +95,7 @@ fn block_sum(
     last: usize,
 ) -> Complex
     requires { ⌜ PartOf first last (length (now x)) (length (now z)) (length (now re)) (length (now im)) ⌝ }
-    ensures { λ r. ⌜ r ≡ partSum (lent x) (lent z) (lent re) (lent im) ket first last ⌝ }
+    ensures { λ r. ⌜ r ≡ partSum (content x) (content z) (content re) (content im) ket first last ⌝ }
     ensures { λ r. ⌜ Within sumMax r ⌝ }
 {
     let mut i = first;
@@ -119,7 +119,7 @@ pub(crate) fn pair_element(
     guess: Place,
 ) -> Complex
     requires { ⌜ Ready (now x) (length (now z)) (length (now re)) (length (now im)) ⌝ }
-    ensures { λ r. ⌜ r ≡ blockSum (lent x) (lent z) (lent re) (lent im) (bitXor bra ket) ket ⌝ }
+    ensures { λ r. ⌜ r ≡ blockSum (content x) (content z) (content re) (content im) (bitXor bra ket) ket ⌝ }
 {
     let p = crate::block(x, bra ^ ket, guess);
     block_sum(x, z, re, im, ket, p.first, p.last)
@@ -135,7 +135,7 @@ pub fn mat_elem_cmpnts_from_presorted(
     bra: u64,
     ket: u64,
 ) -> Element
-    ensures { λ r. ⌜ MatElem n (lent x) (lent z) (lent re) (lent im) bra ket r ⌝ }
+    ensures { λ r. ⌜ MatElem n (content x) (content z) (content re) (content im) bra ket r ⌝ }
 {
     let found = crate::find_block(n, x, z, re.len(), im.len(), bra, ket);
     match found {

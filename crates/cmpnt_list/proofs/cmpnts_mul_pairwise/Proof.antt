@@ -11,7 +11,7 @@ use Rattle.encoding.proofs.Faults.{least-none, refusing, passing}
 use Rattle.encoding.proofs.Ranks.{both-parts}
 use Rattle.cmpnt_list.proofs.Tests.{all-parts}
 use Rattle.encoding.specs.Set.{memOf, count, lay}
-use Rattle.cmpnt_list.specs.Calls.{clashLines, pairs, pairNumbers}
+use Rattle.cmpnt_list.specs.Calls.{clashLines, pairRows, pairNumbers}
 use Rattle.cmpnt_list.proofs.cmpnts_mul_pairwise.Statement.{statement}
 use Rattle.cmpnt_list.proofs.cmpnts_mul_pairwise.Tie as tie
 use Rattle.cmpnt_list.proofs.cmpnts_mul_pairwise.Lts as lts
@@ -29,7 +29,7 @@ returns c =
     record {
       one-m = refl;
       answer = refusing Refused doneOr (λ k. refl) e (c .if1 .taken);
-      rows = refusing (λ (k : ℕ). O) (λ (k : ℕ). leftOr k O (lay (a .n) (count L) (pairs (a .n) L R))) (λ k. refl) e (c .if1 .taken);
+      rows = refusing (λ (k : ℕ). O) (λ (k : ℕ). leftOr k O (lay (a .n) (count L) (pairRows (a .n) L R))) (λ k. refl) e (c .if1 .taken);
       numbers = refusing (λ (k : ℕ). cs) (λ (k : ℕ). leftOr k cs (pairNumbers (a .n) L R)) (λ k. refl) e (c .if1 .taken);
     }
 
@@ -58,7 +58,7 @@ returns-2 c =
     record {
       one-m = refl;
       answer = passing doneOr e z;
-      rows = m .mul-rows .ensures .0 ∙ passing (λ (k : ℕ). leftOr k O (lay (a .n) (count L) (pairs (a .n) L R))) e z;
+      rows = m .mul-rows .ensures .0 ∙ passing (λ (k : ℕ). leftOr k O (lay (a .n) (count L) (pairRows (a .n) L R))) e z;
       numbers = m .mul-rows .ensures .1 ∙ passing (λ (k : ℕ). leftOr k cs (pairNumbers (a .n) L R)) e z;
     }
 

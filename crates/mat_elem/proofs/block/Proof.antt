@@ -1,4 +1,4 @@
--- Invariant: from the block's start up to `last` every word is t (`Run`), so no word before `last` is above t.
+-- Invariant: from the block's start up to `last` every word is t (`Running`), so no word before `last` is above t.
 -- The first word that is not t is above it, since X never falls: `last` is the number of words that are not above t.
 use borrow.Author.Needs.{needs}
 use native.Mathlib.Omega.{arith}
@@ -6,7 +6,7 @@ use mathlib.Core.Path.{ap₂}
 use Prim.Native.Nat.{ℕ, _-_}
 use lib.ListN.{length}
 use Rattle.mat_elem.specs.declared.Place.{Place}
-use Rattle.mat_elem.proofs.Places.{Run, run-none, run-more, run-stop, run-end}
+use Rattle.mat_elem.proofs.Places.{Running, run-none, run-more, run-stop, run-end}
 use Rattle.mat_elem.proofs.block.Statement.{statement}
 use Rattle.mat_elem.proofs.block.Tie as tie
 
@@ -14,7 +14,7 @@ abbrev place : ℕ → ℕ → Place
 place first last = record { first = first; last = last }
 
 abbrev Inv-loop : tie.InvT-loop
-Inv-loop x t first last₀ last = Run x t last
+Inv-loop x t first last₀ last = Running x t last
 
 abbrev μ-loop : tie.MeasureT-loop
 μ-loop x t first last₀ last = length x - last

@@ -9,7 +9,7 @@ use Rattle.encoding.specs.Ranks.{byRank}
 use Rattle.encoding.proofs.Ranks.{holdsAt}
 use Rattle.checked.specs.declared.CheckedComplex.{CheckedComplex}
 use Rattle.mat_elem.specs.Workers.{overBras, totalOr}
-use Rattle.mat_elem.specs.states.Sums.{Terms, State, Run, stateLines, allPairs, total, totalOf}
+use Rattle.mat_elem.specs.states.Sums.{Terms, State, Running, vectorLines, allPairs, total, totalOf}
 use Rattle.mat_elem.specs.declared.states.Total.{Total}
 use Rattle.mat_elem.specs.declared.states.Total.the-variants.{Sum, Refused}
 use Rattle.mat_elem.proofs.states.Pairs.{run-told, total-told}
@@ -24,7 +24,7 @@ none-sixteen false false false false true e = omega (arith, e)
 none-sixteen false false false false false e = omega (arith, e)
 
 module _ (n : ℕ) (A : Terms) (bra ket : State) where
-  pub answer-refused : {k : ℕ} → k ≡ byRank (stateLines n A bra ket) → (k ≡ 0 → ⊥) → Refused k ≡ totalOf n A bra ket
+  pub answer-refused : {k : ℕ} → k ≡ byRank (vectorLines n A bra ket) → (k ≡ 0 → ⊥) → Refused k ≡ totalOf n A bra ket
   unfolding totalOf
   answer-refused {k} e h = rw (sym e) (go k h)
     where
@@ -32,18 +32,18 @@ module _ (n : ℕ) (A : Terms) (bra ket : State) where
       go zero h = absurd (h refl)
       go (suc k) h = refl
 
-  pub answer-run : byRank (stateLines n A bra ket) ≡ 0 → {s : CheckedComplex} {r : Total} → s ≡ overBras A bra ket → r ≡ totalOr s → r ≡ totalOf n A bra ket
+  pub answer-run : byRank (vectorLines n A bra ket) ≡ 0 → {s : CheckedComplex} {r : Total} → s ≡ overBras A bra ket → r ≡ totalOr s → r ≡ totalOf n A bra ket
   unfolding totalOf
   answer-run e q p = rw e (p ∙ ap totalOr (q ∙ run-told A bra ket) ∙ total-told (allPairs A bra ket))
 
   -- 16 exactly when nothing else is refused and some number on the way leaves i64
-  not-sixteen : byRank (stateLines n A bra ket) ≡ 16 → ⊥
+  not-sixteen : byRank (vectorLines n A bra ket) ≡ 16 → ⊥
   unfolding byRank
   not-sixteen e =
-      let t = holdsAt (stateLines n A bra ket) in
+      let t = holdsAt (vectorLines n A bra ket) in
       none-sixteen (t 0) (t 1) (t 2) (t 3) (t 4) e
 
-  sixteen : (k : ℕ) (r : Run) → (k ≡ 16 → ⊥) → total k r ≡ Refused 16 → (k ≡ 0) × (r .fits ≡ false)
+  sixteen : (k : ℕ) (r : Running) → (k ≡ 16 → ⊥) → total k r ≡ Refused 16 → (k ≡ 0) × (r .fits ≡ false)
   sixteen zero r h q = go (r .fits) q
     where
       go : (f : Bool) → cond f (Sum (r .sum .re) (r .sum .im)) (Refused 16) ≡ Refused 16 → (_≡_ {A = ℕ} 0 0) × (f ≡ false)
@@ -51,6 +51,6 @@ module _ (n : ℕ) (A : Terms) (bra ket : State) where
       go false z = (refl, refl)
   sixteen (suc k) r h q = let e : suc k ≡ 16 = cc in absurd (h e)
 
-  pub sixteen-when : (totalOf n A bra ket ≡ Refused 16) ↔ ((byRank (stateLines n A bra ket) ≡ 0) × (allPairs A bra ket .fits ≡ false))
+  pub sixteen-when : (totalOf n A bra ket ≡ Refused 16) ↔ ((byRank (vectorLines n A bra ket) ≡ 0) × (allPairs A bra ket .fits ≡ false))
   unfolding totalOf
-  sixteen-when = (λ q. sixteen (byRank (stateLines n A bra ket)) (allPairs A bra ket) not-sixteen q, λ h. rw (h .0, h .1))
+  sixteen-when = (λ q. sixteen (byRank (vectorLines n A bra ket)) (allPairs A bra ket) not-sixteen q, λ h. rw (h .0, h .1))

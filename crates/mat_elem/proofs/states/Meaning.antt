@@ -21,7 +21,7 @@ use Rattle.checked.proofs.Six.{conjugate-is}
 use Rattle.mat_elem.specs.Terms.{inBlock}
 use Rattle.mat_elem.specs.Sums.{sumOver}
 use Rattle.mat_elem.specs.Operator.{stateOf, operator}
-use Rattle.mat_elem.specs.states.Sums.{Terms, State, Run, coefficientAt, elementAt, through, onKet, onBra, noPair, allPairs, stateLines, total, totalOf}
+use Rattle.mat_elem.specs.states.Sums.{Terms, State, Running, coefficientAt, elementAt, through, onKet, onBra, noPair, allPairs, vectorLines, total, totalOf}
 use Rattle.mat_elem.specs.states.Vectors.{vectorOf, between, MatElem}
 use Rattle.mat_elem.specs.declared.states.Total.{Total}
 use Rattle.mat_elem.specs.declared.states.Total.the-variants.{Sum, Refused}
@@ -93,7 +93,7 @@ module _ (A : Terms) (ket : State) (w : ℕ) (b : Gauss) where
   abbrev ketPair : ℕ → Gauss
   ketPair j = pairOf b (coefficientAt ket j) (elementAt A w (getD (ket .words) j 0))
 
-  kets-sum : (r : Run) (m : ℕ) → through (onKet A ket w b) r m .sum ≡ r .sum ⊕ sigma ketPair m
+  kets-sum : (r : Running) (m : ℕ) → through (onKet A ket w b) r m .sum ≡ r .sum ⊕ sigma ketPair m
   unfolding through sumOver
   kets-sum r zero = sym (⊕-g0 (r .sum))
   kets-sum r (suc m) = ap (λ (x : Gauss). x ⊕ ketPair m) (kets-sum r m) ∙ ⊕-assoc (r .sum) (sigma ketPair m) (ketPair m)
@@ -114,7 +114,7 @@ module _ (A : Terms) (bra ket : State) where
 length-state : (n w : ℕ) → n ≤ 64 → length (stateOf n w) ≡ n
 length-state n w l = ap length (take-bits n 64 w l) ∙ length-bits n w
 
-module _ (n : ℕ) (A : Terms) (bra ket : State) (e : byRank (stateLines n A bra ket) ≡ 0) (low : Words n A bra ket e) where
+module _ (n : ℕ) (A : Terms) (bra ket : State) (e : byRank (vectorLines n A bra ket) ≡ 0) (low : Words n A bra ket e) where
   element-entry : (i j : ℕ) → i < length (bra .words) → j < length (ket .words)
       → operator n (A .xs) (A .zs) (A .re) (A .im) (stateOf n (getD (bra .words) i 0)) (stateOf n (getD (ket .words) j 0)) ≡ elementAt A (getD (bra .words) i 0) (getD (ket .words) j 0)
   element-entry i j h k =
@@ -137,7 +137,7 @@ module _ (n : ℕ) (A : Terms) (bra ket : State) (e : byRank (stateLines n A bra
 
 -- ---- what the call answers
 
-given-sum : (k : ℕ) (r : Run) (u v : ℤ) → total k r ≡ Sum u v → (k ≡ 0) × (gauss u v ≡ r .sum)
+given-sum : (k : ℕ) (r : Running) (u v : ℤ) → total k r ≡ Sum u v → (k ≡ 0) × (gauss u v ≡ r .sum)
 given-sum zero r u v q = go (r .fits) q
   where
     go : (f : Bool) → cond f (Sum (r .sum .re) (r .sum .im)) (Refused 16) ≡ Sum u v → (_≡_ {A = ℕ} 0 0) × (gauss u v ≡ r .sum)
@@ -147,7 +147,7 @@ given-sum (suc k) r u v q = let no : _≡_ {A = ℕ} 0 1 = cc in absurd (omega a
 
 pub mat-elem : (n : ℕ) (A : Terms) (bra ket : State) {r : Total} → r ≡ totalOf n A bra ket → Fit (A .xs) → Fit (A .zs) → Fit (bra .words) → Fit (ket .words) → MatElem n A bra ket r
 unfolding totalOf
-mat-elem n A bra ket {r} e fx fz fb fk = record { answer = e; meaning = λ u v q. go u v (given-sum (byRank (stateLines n A bra ket)) (allPairs A bra ket) u v (sym e ∙ q)) }
+mat-elem n A bra ket {r} e fx fz fb fk = record { answer = e; meaning = λ u v q. go u v (given-sum (byRank (vectorLines n A bra ket)) (allPairs A bra ket) u v (sym e ∙ q)) }
   where
-    go : (u v : ℤ) → (byRank (stateLines n A bra ket) ≡ 0) × (gauss u v ≡ allPairs A bra ket .sum) → gauss u v ≡ between n A bra ket
+    go : (u v : ℤ) → (byRank (vectorLines n A bra ket) ≡ 0) × (gauss u v ≡ allPairs A bra ket .sum) → gauss u v ≡ between n A bra ket
     go u v g = g .1 ∙ sum-between n A bra ket (g .0) (tests-words n A bra ket (g .0) fx fz fb fk)

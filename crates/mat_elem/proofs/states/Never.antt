@@ -15,7 +15,7 @@ use Rattle.mat_elem.specs.Sums.{exponentOf, stepIf, sumOver}
 use Rattle.mat_elem.specs.Operator.{coefficient}
 use Rattle.mat_elem.specs.whole.Sums.{complex, turnedBy, plus, termAt}
 use Rattle.mat_elem.specs.declared.whole.Complex.{Complex}
-use Rattle.mat_elem.specs.states.Sums.{Terms, State, Run, coefficientAt, elementAt, through, onKet, onBra, noPair, allPairs}
+use Rattle.mat_elem.specs.states.Sums.{Terms, State, Running, coefficientAt, elementAt, through, onKet, onBra, noPair, allPairs}
 use Rattle.mat_elem.specs.states.Sizes.{sizeTo, termsSize, stateSize, Small}
 use Rattle.mat_elem.proofs.whole.Size.{natAbs-neg}
 
@@ -85,7 +85,7 @@ both-true : {f g h : Bool} → f ≡ true → g ≡ true → h ≡ true → (f &
 both-true p q r = rw (p, q, r)
 
 -- the sum so far, and that all fits
-record Fine (r : Run) (most : ℕ) : Type 0 where
+record Fine (r : Running) (most : ℕ) : Type 0 where
   all : r .fits ≡ true
   le : sizeOf (r .sum) ≤ most
 
@@ -102,7 +102,7 @@ module _ (A : Terms) (ket : State) (w : ℕ) (b : Gauss) where
   element-size : (j : ℕ) → sizeOf (element j) ≤ size
   element-size j = block-size (A .xs) (A .zs) (A .re) (A .im) (getD (ket .words) j 0) _ (length (A .xs))
 
-  module _ (r : Run) (s : ℕ) (f : Fine r s) (first : sizeOf b * stateSize ket < 2 ^ 63) (second : s + sizeOf b * stateSize ket * size < 2 ^ 63) where
+  module _ (r : Running) (s : ℕ) (f : Fine r s) (first : sizeOf b * stateSize ket < 2 ^ 63) (second : s + sizeOf b * stateSize ket * size < 2 ^ 63) where
     kets-fine : (m : ℕ) → m ≤ length (ket .words) → Fine (through (onKet A ket w b) r m) (s + sizeOf b * ofKets m * size)
     unfolding through sizeTo
     kets-fine zero h = record { all = f .all; le = le-trans (f .le) (omega arith) }

@@ -21,7 +21,7 @@ use Rattle.mat_elem.specs.Terms.{setFrom, hasBlock, linesTo10, termLines
 use Rattle.mat_elem.specs.whole.Sums.{complex, plus, termAt, blockSum, element, elementOf}
 use Rattle.mat_elem.specs.declared.whole.Complex.{Complex}
 use Rattle.mat_elem.specs.declared.states.Total.the-variants.{Sum}
-use Rattle.mat_elem.specs.states.Sums.{Terms, elementAt, through, allPairs, stateLines, total, totalOf}
+use Rattle.mat_elem.specs.states.Sums.{Terms, elementAt, through, allPairs, vectorLines, total, totalOf}
 use Rattle.mat_elem.specs.states.Sizes.{sizeTo, stateSize, alone, asTotal}
 use Rattle.mat_elem.proofs.SumLaws.{sum-empty}
 use Rattle.mat_elem.proofs.states.Tests.{tests-ready}
@@ -42,7 +42,7 @@ one-size w = refl
 
 module _ (n : ℕ) (A : Terms) (bra ket : ℕ) where
   abbrev tests : ℕ
-  tests = byRank (stateLines n A (alone bra) (alone ket))
+  tests = byRank (vectorLines n A (alone bra) (alone ket))
 
   same-tests : tests ≡ byRank (termLines n (A .xs) (A .zs) (length (A .re)) (length (A .im)) bra ket)
   unfolding some

@@ -11,7 +11,7 @@ use Rattle.checked.specs.Workers.{answer, checkedPair, plusChecked}
 use Rattle.checked.specs.declared.CheckedComplex.{CheckedComplex}
 use Rattle.checked.proofs.Six.{plus-is}
 use Rattle.mat_elem.specs.Workers.{ketStep, braStep, overBras, totalOr}
-use Rattle.mat_elem.specs.states.Sums.{Terms, State, Run, coefficientAt, elementAt, withPair, through, onKet, onBra, noPair, allPairs, total}
+use Rattle.mat_elem.specs.states.Sums.{Terms, State, Running, coefficientAt, elementAt, withPair, through, onKet, onBra, noPair, allPairs, total}
 
 -- ---- a loop's steps, one by one
 module _ {S : Type 0} (f : S → ℕ → S) (s : S) where
@@ -24,15 +24,15 @@ module _ {S : Type 0} (f : S → ℕ → S) (s : S) where
   one-more i {t} {r} p q = rw (add-one i) (q ∙ ap (λ (z : S). f z i) p)
 
 -- ---- the definition's run, told as the code has it
-abbrev pub told : Run → CheckedComplex
+abbrev pub told : Running → CheckedComplex
 told r = answer (r .fits) (r .sum)
 
-told-step : (r : Run) (b k e : Gauss) → plusChecked (told r) (checkedPair b k e) ≡ told (withPair r b k e)
+told-step : (r : Running) (b k e : Gauss) → plusChecked (told r) (checkedPair b k e) ≡ told (withPair r b k e)
 unfolding checkedPair
 told-step r b k e = plus-is (r .fits) (pairFits b k e) (r .sum) (pairOf b k e)
 
 module _ (A : Terms) (ket : State) (w : ℕ) (b : Gauss) where
-  kets-told : (r : Run) (n : ℕ) → through (ketStep A ket w b) (told r) n ≡ told (through (onKet A ket w b) r n)
+  kets-told : (r : Running) (n : ℕ) → through (ketStep A ket w b) (told r) n ≡ told (through (onKet A ket w b) r n)
   unfolding through
   kets-told r zero = refl
   kets-told r (suc n) =
@@ -51,7 +51,7 @@ module _ (A : Terms) (bra ket : State) where
   run-told = bras-told (length (bra .words))
 
 -- ---- the answer
-pub total-told : (r : Run) → totalOr (told r) ≡ total 0 r
+pub total-told : (r : Running) → totalOr (told r) ≡ total 0 r
 total-told r = go (r .fits)
   where
     go : (f : Bool) → totalOr (answer f (r .sum)) ≡ total 0 (record { fits = f; sum = r .sum })

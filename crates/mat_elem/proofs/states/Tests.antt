@@ -13,7 +13,7 @@ use Rattle.encoding.proofs.Scan.{none-of}
 use Rattle.encoding.proofs.WordLaws.{Fit}
 use Rattle.mat_elem.specs.Terms.{setFrom}
 use Rattle.mat_elem.specs.Workers.{Ready, Parted}
-use Rattle.mat_elem.specs.states.Sums.{Terms, State, maxVectors, tooLong, badParts, stateLines}
+use Rattle.mat_elem.specs.states.Sums.{Terms, State, maxVectors, tooLong, badParts, vectorLines}
 use Rattle.mat_elem.proofs.Bits.{low-of, low-list}
 use Rattle.mat_elem.proofs.Faults.{lines-sound}
 
@@ -24,7 +24,7 @@ parted s e f =
     let t = none-of (not (eqb (length (s .re)) m)) (not (eqb (length (s .im)) m)) f in
     record { few = ltb-false maxVectors m e; re-long = eqb-true (length (s .re)) m (not-false _ (t .0)); im-long = eqb-true (length (s .im)) m (not-false _ (t .1)) }
 
-module _ (n : ℕ) (A : Terms) (bra ket : State) (e : byRank (stateLines n A bra ket) ≡ 0) where
+module _ (n : ℕ) (A : Terms) (bra ket : State) (e : byRank (vectorLines n A bra ket) ≡ 0) where
   abbrev many : Bool
   many = tooLong (bra .words) || tooLong (ket .words)
 

@@ -53,16 +53,16 @@ abbrev pub badParts : ℕ → ℕ → ℕ → Bool
 badParts m reals imags = not (eqb reals m) || not (eqb imags m)
 
 -- 1 to 10, 4 in any word of the two lists too; of the parts only how many there are
-abbrev pub listLines : ℕ → List ℕ → List ℕ → ℕ → ℕ → List ℕ → ℕ → ℕ → List ℕ → ℕ → ℕ → List TableLine
-listLines n xs zs reals imags bras breals bimags kets kreals kimags =
+abbrev pub partLines : ℕ → List ℕ → List ℕ → ℕ → ℕ → List ℕ → ℕ → ℕ → List ℕ → ℕ → ℕ → List TableLine
+partLines n xs zs reals imags bras breals bimags kets kreals kimags =
     linesTo10 n xs zs reals imags
     (tooLong bras || tooLong kets)
     (badParts (length bras) breals bimags || badParts (length kets) kreals kimags)
     (some (setFrom n) bras || some (setFrom n) kets)
 
-abbrev pub stateLines : ℕ → Terms → State → State → List TableLine
-stateLines n A bra ket =
-    listLines n (A .xs) (A .zs) (length (A .re)) (length (A .im))
+abbrev pub vectorLines : ℕ → Terms → State → State → List TableLine
+vectorLines n A bra ket =
+    partLines n (A .xs) (A .zs) (length (A .re)) (length (A .im))
     (bra .words) (length (bra .re)) (length (bra .im))
     (ket .words) (length (ket .re)) (length (ket .im))
 
@@ -73,12 +73,12 @@ abbrev pub elementAt : Terms → ℕ → ℕ → Gauss
 elementAt A bra ket = let s = blockSum (A .xs) (A .zs) (A .re) (A .im) (bitXor bra ket) ket in gauss (s .re) (s .im)
 
 -- the sum so far, and whether every number so far is an i64
-pub record Run : Type 0 where
+pub record Running : Type 0 where
   pub fits : Bool
   pub sum : Gauss
 
 -- one pair more, of coefficients b and k and element e: its twelve numbers, and both parts of the sum
-abbrev pub withPair : Run → Gauss → Gauss → Gauss → Run
+abbrev pub withPair : Running → Gauss → Gauss → Gauss → Running
 withPair r b k e = record { fits = (r .fits && pairFits b k e) && bothWithin (r .sum ⊕ pairOf b k e); sum = r .sum ⊕ pairOf b k e }
 
 -- a step at 0, 1, .. up to, not including, n
@@ -87,24 +87,24 @@ through f s zero = s
 through f s (suc n) = f (through f s n) n
 
 -- ket j, for a bra of word w and coefficient b; and bra i, with all kets
-abbrev pub onKet : Terms → State → ℕ → Gauss → Run → ℕ → Run
+abbrev pub onKet : Terms → State → ℕ → Gauss → Running → ℕ → Running
 onKet A ket w b r j = withPair r b (coefficientAt ket j) (elementAt A w (getD (ket .words) j 0))
 
-abbrev pub onBra : Terms → State → State → Run → ℕ → Run
+abbrev pub onBra : Terms → State → State → Running → ℕ → Running
 onBra A bra ket r i = through (onKet A ket (getD (bra .words) i 0) (coefficientAt bra i)) r (length (ket .words))
 
 -- all pairs, bra outer, ket inner, from zero on
-abbrev pub noPair : Run
+abbrev pub noPair : Running
 noPair = record { fits = true; sum = g0 }
 
-abbrev pub allPairs : Terms → State → State → Run
+abbrev pub allPairs : Terms → State → State → Running
 allPairs A bra ket = through (onBra A bra ket) noPair (length (bra .words))
 
 -- ---- the answer: a number of 1 to 10, else 16 where a number on the way leaves i64, else the sum
 
-abbrev pub total : ℕ → Run → Total
+abbrev pub total : ℕ → Running → Total
 total zero r = cond (r .fits) (Sum (r .sum .re) (r .sum .im)) (Refused 16)
 total (suc k) r = Refused (suc k)
 
 unfoldable pub totalOf : ℕ → Terms → State → State → Total
-totalOf n A bra ket = total (byRank (stateLines n A bra ket)) (allPairs A bra ket)
+totalOf n A bra ket = total (byRank (vectorLines n A bra ket)) (allPairs A bra ket)
