@@ -104,7 +104,8 @@ uint8_t bawersun_count(size_t n, size_t m, const uint64_t *x, size_t x_len, cons
 uint8_t bawersun_phase_of_mul(size_t n, size_t m, const uint64_t *x, size_t x_len, const uint64_t *z, size_t z_len,
     const uint64_t *phases, size_t phases_len, size_t a, size_t b, uint8_t *exponent);
 
-/* phase_of_mul_by_table: the same answer as phase_of_mul, by look-ups, for chips that have no instruction for counting ones. */
+/* phase_of_mul_by_table: the same answer as phase_of_mul, by look-ups, for chips that have no instruction for counting ones.
+ * Lent, changed and refused as there. */
 uint8_t bawersun_phase_of_mul_by_table(size_t n, size_t m, const uint64_t *x, size_t x_len, const uint64_t *z,
     size_t z_len, const uint64_t *phases, size_t phases_len, size_t a, size_t b, uint8_t *exponent);
 
@@ -280,7 +281,8 @@ uint8_t bawersun_mat_elem_cmpnts_from_presorted(size_t n, const uint64_t *x, siz
     size_t z_len, const double *re, size_t re_len, const double *im, size_t im_len, uint64_t bra, uint64_t ket,
     double *real, double *imag);
 
-/* The same with whole coefficients; the sum is exact. Refusals: 1 to 4, 10. */
+/* mat_elem_cmpnts_from_presorted_whole: the same with whole coefficients; the sum is exact.
+ * Lent, changed and what comes back as there. Refusals: 1 to 4, 10. */
 uint8_t bawersun_mat_elem_cmpnts_from_presorted_whole(size_t n, const uint64_t *x, size_t x_len, const uint64_t *z,
     size_t z_len, const int32_t *re, size_t re_len, const int32_t *im, size_t im_len, uint64_t bra, uint64_t ket,
     int64_t *real, int64_t *imag);
