@@ -247,11 +247,9 @@ impl Run {
         let calls = programs.calls.as_ref().map(|program| self.answers(program, &every));
         let archive = programs.archive.map(each);
         for (i, line) in lines.iter().enumerate() {
-            let one = |answers: &'_ Option<Vec<String>>| answers.as_ref().map(|answers| answers[i].clone());
-            let (calls, archive) = (one(&calls), one(&archive));
             // a line that is not of the form is no call
-            let archive = archive.as_deref().filter(|_| cases[i].is_some());
-            let answers = Answers { model: &model[i], rust: rust[i].as_deref(), calls: calls.as_deref(), archive };
+            let archive = nth(&archive, i).filter(|_| cases[i].is_some());
+            let answers = Answers { model: &model[i], rust: rust[i].as_deref(), calls: nth(&calls, i), archive };
             self.judge(line, cases[i].as_ref(), answers);
         }
     }
@@ -455,6 +453,10 @@ fn same_element(whole: Option<&str>, float: Option<&str>) -> bool {
         }
         _ => whole == float,
     }
+}
+
+fn nth(answers: &Option<Vec<String>>, i: usize) -> Option<&str> {
+    answers.as_ref().map(|answers| answers[i].as_str())
 }
 
 fn counted(count: &mut Count, agree: bool) -> bool {

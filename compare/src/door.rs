@@ -6,112 +6,14 @@ use bawersun::*;
 use lines::gate::Gate as LineGate;
 use lines::line::{hexes, joined, Case, Field, M, MORE, SET};
 
-use crate::pwl::Record;
+use crate::lent::{Filling, Lent, Seen};
 
-/// What stands on either side of what is lent, and in outputs before they are written; and whether two are the same in every bit.
-trait Filling: Copy {
-    fn filling(place: usize) -> Self;
-    fn same(self, other: Self) -> bool;
-}
-
-fn word(place: usize) -> u64 {
-    0xa5c3_96e1_d2b4_785a_u64.rotate_left(7 * place as u32 % 64) ^ place as u64
-}
-
-macro_rules! filled {
-    ($($type:ty),*) => {
-        $(impl Filling for $type {
-            fn filling(place: usize) -> Self {
-                word(place) as $type
-            }
-
-            fn same(self, other: Self) -> bool {
-                self == other
-            }
-        })*
-    };
-}
-
-filled!(u8, u16, i32, u64);
-
-impl Filling for f64 {
-    fn filling(place: usize) -> Self {
-        word(place) as f64
-    }
-
-    fn same(self, other: Self) -> bool {
-        self.to_bits() == other.to_bits()
-    }
-}
-
-const GUARD: usize = 8;
-
-/// A slice that is lent, between guards, and all of it as it was.
-struct Lent<T> {
-    all: Vec<T>,
-    was: Vec<T>,
-}
-
-impl<T: Filling> Lent<T> {
-    fn of(content: impl IntoIterator<Item = T>) -> Self {
-        let mut all: Vec<T> = (0..GUARD).map(T::filling).collect();
-        all.extend(content);
-        all.extend((0..GUARD).map(T::filling));
-        Self { was: all.clone(), all }
-    }
-
-    /// An output, full of something.
-    fn output(length: u64) -> Self {
-        Self::of((0..length as usize).map(|place| T::filling(place + 1)))
-    }
-
-    fn len(&self) -> usize {
-        self.all.len() - 2 * GUARD
-    }
-
-    fn read(&self) -> &[T] {
-        &self.all[GUARD..GUARD + self.len()]
-    }
-
-    fn write(&mut self) -> &mut [T] {
-        let length = self.len();
-        &mut self.all[GUARD..GUARD + length]
-    }
-
-    /// Whether nothing but so many values from its start on changed.
-    fn stayed_past(&self, content: usize) -> bool {
-        let same = |from: usize, to: usize| self.all[from..to].iter().zip(&self.was[from..to]).all(|(a, b)| a.same(*b));
-        same(0, GUARD) && same(GUARD + content, self.all.len())
-    }
-}
-
-/// What was changed that must not be, by name.
-#[derive(Default)]
-struct Seen(Vec<&'static str>);
-
-impl Seen {
-    fn past<T: Filling>(&mut self, name: &'static str, lent: &Lent<T>, content: usize) {
-        if !lent.stayed_past(content) {
-            self.0.push(name);
-        }
-    }
-
-    fn read<T: Filling>(&mut self, name: &'static str, lent: &Lent<T>) {
-        self.past(name, lent, 0);
-    }
-
-    /// All of it may have changed, or nothing.
-    fn written<T: Filling>(&mut self, name: &'static str, lent: &Lent<T>, changed: bool) {
-        self.past(name, lent, if changed { lent.len() } else { 0 });
-    }
-}
-
-struct Rows {
-    n: usize,
-    m: usize,
-    x: Lent<u64>,
-    z: Lent<u64>,
-    phases: Lent<u64>,
+pub struct Rows {
+    pub n: usize,
+    pub m: usize,
+    pub x: Lent<u64>,
+    pub z: Lent<u64>,
+    pub phases: Lent<u64>,
 }
 
 impl Rows {
@@ -125,7 +27,7 @@ impl Rows {
         Set { n: self.n, m: self.m, x: self.x.read(), z: self.z.read(), phases: self.phases.read() }
     }
 
-    fn changed(&mut self) -> SetMut<'_> {
+    pub fn changed(&mut self) -> SetMut<'_> {
         SetMut { n: self.n, m: self.m, x: self.x.write(), z: self.z.write(), phases: self.phases.write() }
     }
 
@@ -133,7 +35,7 @@ impl Rows {
         Words { x: self.x.read(), z: self.z.read(), phases: self.phases.read() }
     }
 
-    fn look(&self, seen: &mut Seen, changed: bool) {
+    pub fn look(&self, seen: &mut Seen, changed: bool) {
         self.look_but_phases(seen, changed);
         seen.written("phases", &self.phases, changed);
     }
@@ -176,7 +78,7 @@ impl OwnLists {
 }
 
 /// The line of an answer, or of a refusal.
-fn line<T>(answer: Result<T, Refusal>, text: impl FnOnce(T) -> String) -> String {
+pub fn line<T>(answer: Result<T, Refusal>, text: impl FnOnce(T) -> String) -> String {
     match answer {
         Ok(answer) => text(answer),
         Err(refusal) => format!("refuse {}", refusal.number()),
@@ -198,10 +100,7 @@ pub fn answer(case: &Case) -> String {
         "act" | "matrix" | "pair" | "write" => writing(case, &mut seen),
         _ => reading(case, &mut seen),
     };
-    match seen.0[..] {
-        [] => answer,
-        _ => format!("{answer}, but what must not change did: {}", seen.0.join(", ")),
-    }
+    seen.told(answer)
 }
 
 fn on_words(case: &Case) -> String {
@@ -481,116 +380,4 @@ fn element_of_states(case: &Case, seen: &mut Seen) -> String {
     bra.look(seen);
     ket.look(seen);
     line(sum, |(re, im)| format!("ok {re} {im}"))
-}
-
-// ---- log files
-
-/// The outputs of a read, each so many values longer than the front asks.
-struct OwnOutputs {
-    units: Lent<u16>,
-    x: Lent<u64>,
-    z: Lent<u64>,
-    phases: Lent<u64>,
-    claimed: Lent<u64>,
-}
-
-/// How many values each output needs.
-fn needed(front: Front) -> [usize; 5] {
-    let (rows, phases) = (front.m * words(front.n), phase_words(front.m));
-    [front.order + front.listed + front.extra + 2 * front.entries, rows, rows, phases, 2 * rows + phases]
-}
-
-impl OwnOutputs {
-    fn of(lengths: [usize; 5]) -> Self {
-        let [units, x, z, phases, claimed] = lengths.map(|length| length as u64);
-        let output = Lent::output;
-        Self {
-            units: Lent::output(units),
-            x: output(x),
-            z: output(z),
-            phases: output(phases),
-            claimed: output(claimed),
-        }
-    }
-
-    fn lent(&mut self) -> Outputs<'_> {
-        let (units, x, z) = (self.units.write(), self.x.write(), self.z.write());
-        Outputs { units, x, z, phases: self.phases.write(), claimed: self.claimed.write() }
-    }
-
-    fn look(&self, seen: &mut Seen, content: [usize; 5]) {
-        seen.past("units past their content", &self.units, content[0]);
-        seen.past("x past its content", &self.x, content[1]);
-        seen.past("z past its content", &self.z, content[2]);
-        seen.past("phases past their content", &self.phases, content[3]);
-        seen.past("claimed past its content", &self.claimed, content[4]);
-    }
-}
-
-/// A little more than is needed of each output.
-const MORE_ROOM: usize = 3;
-
-/// The verdict on a file, in the words of the program `verdict`: it is opened, read and checked. What was read is held to the record.
-pub fn verdict(file: &[u8], record: Option<&Record>) -> String {
-    let (file, mut seen) = (Lent::of(file.iter().copied()), Seen::default());
-    let opened = pwl_open(file.read());
-    let lengths = opened.map_or([MORE_ROOM; 5], needed);
-    let mut out = OwnOutputs::of(lengths.map(|length| length + MORE_ROOM));
-    let front = pwl_read(file.read(), out.lent());
-    out.look(&mut seen, if front.is_ok() { lengths } else { [0; 5] });
-    if front.is_ok() && front != opened {
-        return "open and read give other fronts".to_string();
-    }
-    let said = line(front, |front| checked(front, &out, record, &mut seen));
-    if front.is_ok() {
-        one_short(&file, lengths, &mut seen);
-    }
-    seen.read("the file", &file);
-    match seen.0[..] {
-        [] => said.trim_start_matches("refuse ").to_string(),
-        _ => format!("{said}, but what must not change did: {}", seen.0.join(", ")),
-    }
-}
-
-/// The checker's word on what was read.
-fn checked(front: Front, out: &OwnOutputs, record: Option<&Record>, seen: &mut Seen) -> String {
-    let [units, rows, _, phases, _] = needed(front);
-    let (order, rest) = out.units.read()[..units].split_at(front.order);
-    let (listed, rest) = rest.split_at(front.listed);
-    let (extra, log) = rest.split_at(front.extra);
-    let (cx, rest) = out.claimed.read().split_at(rows);
-    let (cz, cp) = (&rest[..rows], &rest[rows..rows + phases]);
-    let (x, z, p) = (&out.x.read()[..rows], &out.z.read()[..rows], &out.phases.read()[..phases]);
-    let same = record.is_some_and(|record| {
-        let sets = [(&record.start, [x, z, p]), (&record.claim, [cx, cz, cp])];
-        (record.n as usize, record.m as usize) == (front.n, front.m)
-            && [&record.order[..], &record.listed, &record.extra, &record.log] == [order, listed, extra, log]
-            && sets.iter().all(|(set, words)| [&set.x[..], &set.z, &set.p] == *words)
-    });
-    if !same {
-        return "another run than the file holds".to_string();
-    }
-    let part = |words: &[u64]| Lent::of(words.iter().copied());
-    let mut start = Rows { n: front.n, m: front.m, x: part(x), z: part(z), phases: part(p) };
-    let said = start.changed().check(Lists { order, listed, extra }, log, Words { x: cx, z: cz, phases: cp });
-    start.look(seen, said.is_ok_and(|said| !matches!(said, Verdict::BadEntry(_))));
-    line(said, |said| match said {
-        Verdict::Yes => "yes".to_string(),
-        Verdict::BadEntry(place) => format!("bad entry {place}"),
-        Verdict::Differs(place) => format!("row {place} differs"),
-        Verdict::NotReduced => "not reduced".to_string(),
-    })
-}
-
-/// With one value too few in one of the outputs, a file that can be read is 14, and nothing is written.
-fn one_short(file: &Lent<u8>, lengths: [usize; 5], seen: &mut Seen) {
-    for which in (0..lengths.len()).filter(|which| lengths[*which] > 0) {
-        let mut short = lengths;
-        short[which] -= 1;
-        let mut out = OwnOutputs::of(short);
-        if pwl_read(file.read(), out.lent()) != Err(Refusal::Short) {
-            seen.0.push("an output that is too short was taken");
-        }
-        out.look(seen, [0; 5]);
-    }
 }

@@ -21,6 +21,8 @@ mod cases;
 mod compare;
 #[cfg(feature = "archive")]
 mod door;
+#[cfg(feature = "archive")]
+mod door_files;
 mod engines;
 mod faults;
 mod files;
@@ -29,6 +31,8 @@ mod forms;
 mod fuzz;
 mod gates;
 mod late;
+#[cfg(feature = "archive")]
+mod lent;
 mod malformed;
 mod model;
 mod phases;
@@ -164,7 +168,7 @@ fn limits_run(seed: u64, programs: Programs) -> usize {
 fn archive_files(seed: u64, count: u64) -> usize {
     verdicts::compare_by(seed, count, &|file| {
         let record = pwl::read(file);
-        (door::verdict(file, record.as_ref().ok()), pwl::verdict_on(&record))
+        (door_files::verdict(file, record.as_ref().ok()), pwl::verdict_on(&record))
     })
 }
 

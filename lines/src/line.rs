@@ -1,5 +1,7 @@
 //! The lines of docs/CALLS.md, read and written by one table of calls.
 
+use std::fmt::{Display, Write};
+
 use crate::gate::{self, Gate};
 use crate::limits::{
     LINE, LINE_LIST, LINE_LOG, LINE_PHASES, LINE_ROWS, LINE_TERMS, LINE_TEXT, LINE_VECTORS, LINE_WORDS,
@@ -274,12 +276,24 @@ fn written(field: &Field) -> String {
 }
 
 pub fn hexes(words: &[u64]) -> String {
-    joined(&words.iter().map(|word| format!("{word:x}")).collect::<Vec<_>>())
+    listed(words, |out, word| write!(out, "{word:x}"))
 }
 
-pub fn joined<T: ToString>(items: &[T]) -> String {
+pub fn joined<T: Display>(items: &[T]) -> String {
+    listed(items, |out, item| write!(out, "{item}"))
+}
+
+/// The items with commas between, or a dash where there are none.
+fn listed<T>(items: &[T], put: impl Fn(&mut String, &T) -> std::fmt::Result) -> String {
     if items.is_empty() {
         return "-".to_string();
     }
-    items.iter().map(|item| item.to_string()).collect::<Vec<_>>().join(",")
+    let mut out = String::new();
+    for (place, item) in items.iter().enumerate() {
+        if place > 0 {
+            out.push(',');
+        }
+        put(&mut out, item).expect("a string takes all");
+    }
+    out
 }

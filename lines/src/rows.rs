@@ -101,7 +101,7 @@ pub fn packed(n: usize, rows: &[Row]) -> Set {
 }
 
 /// Product and exponent of two Paulis.
-fn times(a: Pauli, b: Pauli) -> (Pauli, u8) {
+const fn times(a: Pauli, b: Pauli) -> (Pauli, u8) {
     match (a, b) {
         (I, p) | (p, I) => (p, 0),
         (X, Y) => (Z, 1),
@@ -114,19 +114,36 @@ fn times(a: Pauli, b: Pauli) -> (Pauli, u8) {
     }
 }
 
+/// The same of every pair, made once: runs multiply Paulis by the billion.
+static TIMES: [[(Pauli, u8); 4]; 4] = {
+    let mut out = [[(I, 0); 4]; 4];
+    let mut at = 0;
+    while at < 16 {
+        out[at / 4][at % 4] = times(LETTERS[at / 4], LETTERS[at % 4]);
+        at += 1;
+    }
+    out
+};
+
+fn looked_up(a: &Pauli, b: &Pauli) -> (Pauli, u8) {
+    TIMES[*a as usize][*b as usize]
+}
+
 pub fn phase(a: &[Pauli], b: &[Pauli]) -> u8 {
-    let sum: u64 = a.iter().zip(b).map(|(a, b)| times(*a, *b).1 as u64).sum();
+    let sum: u64 = a.iter().zip(b).map(|(a, b)| looked_up(a, b).1 as u64).sum();
     (sum % 4) as u8
 }
 
-pub fn product(a: &[Pauli], b: &[Pauli]) -> Vec<Pauli> {
-    a.iter().zip(b).map(|(a, b)| times(*a, *b).0).collect()
-}
-
-/// Row a times row b: their phases and the exponent of the product add up, mod 4.
+/// Row a times row b: their phases and the exponents of the products add up, mod 4.
 pub fn row_product(a: &Row, b: &Row) -> Row {
-    let exponent = a.phase + b.phase + phase(&a.paulis, &b.paulis);
-    Row { paulis: product(&a.paulis, &b.paulis), phase: exponent % 4 }
+    let mut exponents = (a.phase + b.phase) as usize;
+    let product = |(a, b): (&Pauli, &Pauli)| {
+        let (pauli, exponent) = looked_up(a, b);
+        exponents += exponent as usize;
+        pauli
+    };
+    let paulis = a.paulis.iter().zip(&b.paulis).map(product).collect();
+    Row { paulis, phase: (exponents % 4) as u8 }
 }
 
 /// The row whose product with this one is the identity with exponent 0: each Pauli is its own inverse, and i to the p has
