@@ -7,7 +7,7 @@ use crate::model;
 use crate::random::Random;
 use crate::rows::{packed, Pauli, Row, Set};
 use crate::small::{over_sets, plain_terms, singles_and_pairs};
-use crate::{engines, forms, malformed, phases, states, texts, undoing, valid};
+use crate::{engines, forms, late, malformed, phases, states, texts, undoing, valid};
 
 /// Writes the list and its answers; the number of cases where Rust and model differ, and of the Rust's faults.
 pub fn write(oracle: Option<Vec<String>>, cases: &str, answers: &str) -> usize {
@@ -59,6 +59,7 @@ fn list() -> Vec<String> {
     texts(&mut out);
     phases(&mut out);
     edges_of_the_form(&mut out);
+    tabled(&mut out);
     out
 }
 
@@ -486,6 +487,11 @@ fn edges_of_the_form(out: &mut Vec<String>) {
     out.push(format!("# the edges of the form: {what}"));
     // no carriage returns
     forms::few(&mut |line| out.extend(Some(line).filter(|line| printable(line))));
+}
+
+fn tabled(out: &mut Vec<String>) {
+    out.push("# reductions by the table, from 64 rows and 64 columns on; logs of half of the entries, of all but one, of all".to_string());
+    late::few(&mut |line| out.push(line));
 }
 
 fn random(out: &mut Vec<String>) {

@@ -60,6 +60,15 @@ pub fn all(seed: u64, count: u64, sink: Sink) -> Reached {
     reached
 }
 
+/// Some for the fixed list: sets that the table is for, with logs that hold half of the entries, all but one, and all.
+pub fn few(sink: Sink) {
+    for i in 25..32 {
+        let start = start(&mut Random::of(0x1a7e, i), i as usize);
+        let needed = reduce(&mut start.rows.to_vec(), start.lists.lent(), usize::MAX).log.len();
+        [needed / 2, needed.saturating_sub(1), needed].map(|entries| sink(start.case(2 * entries).line()));
+    }
+}
+
 /// Set i: the 25 pairs of rows and columns next to the edges go round, and between them others.
 fn start(random: &mut Random, i: usize) -> Start {
     let (at, near) = (i % 32, |edge: usize, step: usize| edge - 2 + step);
