@@ -1,1 +1,2 @@
 pub mod Paulis
+pub mod Settled
