@@ -16,7 +16,8 @@ skip_rust() {
     return 1
 }
 
-# The copy, made before the first package is built. Without the Rust's files it is without the packages that want them, and where Debian has other versions than the lock file names, without that.
+# The copy, made before the first package is built. Without the Rust's files it is without the packages that want them; where Debian has other
+# versions than the lock file names, it is without that.
 lay_out() {
     rm -rf "$rust/tree"
     mkdir -p "$rust/tree"
@@ -31,7 +32,7 @@ lay_out() {
 
 run_cargo() { # WORD...
     (
-        cd "$rust/tree"
+        cd "$rust/tree" || exit 1
         CARGO_HOME=$rust/cargo CARGO_TARGET_DIR=$rust/build cargo "$@" --offline ${config[@]+"${config[@]}"}
     )
 }

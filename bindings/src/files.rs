@@ -62,8 +62,8 @@ pub fn pwl_open(file: &[u8]) -> Result<Front, Refusal> {
     given(number, front)
 }
 
-/// The run in a file goes into the outputs; the answer is the front. Refusals: `NoFile` to `LeftOver`; those of [`check`](crate::SetMut::check), of the run in
-/// the file; `Short`.
+/// The run in a file goes into the outputs; the answer is the front. Refusals: `NoFile` to `LeftOver`; those of
+/// [`check`](crate::SetMut::check), of the run in the file; `Short`.
 ///
 /// ```
 /// # use bawersun::{pwl_read, Front, Lists, Outputs, Set, Words};
@@ -88,8 +88,8 @@ pub fn pwl_read(file: &[u8], outputs: Outputs) -> Result<Front, Refusal> {
 }
 
 impl Set<'_> {
-    /// The bytes of the run that starts from these rows go to the start of `out`; the answer is their number, [`Front::bytes`]. Whether the log leads to
-    /// the claimed rows is not asked. Refusals: those of [`check`](crate::SetMut::check); `Short`.
+    /// The bytes of the run that starts from these rows go to the start of `out`; the answer is their number, [`Front::bytes`]. Whether
+    /// the log leads to the claimed rows is not asked. Refusals: those of [`check`](crate::SetMut::check); `Short`.
     ///
     /// ```
     /// # use bawersun::{pwl_open, Lists, Set, Words};
