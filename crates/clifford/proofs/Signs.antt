@@ -7,7 +7,7 @@ use Prim.Native.Nat.{ℕ, _+_, _*_, _/_, _%_, _^_, _<_}
 use native.Mathlib.Omega.{arith}
 use lib.ListN.{length, getD}
 use lib.Pow.{shr-shr}
-use Rattle.encoding.specs.Words.{odd, bit, bitAt, withBit}
+use Rattle.encoding.specs.Words.{bit, bitAt}
 use Rattle.encoding.specs.Set.{phaseUnits, exponentAt}
 use Rattle.encoding.proofs.Odd.{xorᵇ, bit-odd}
 use Rattle.encoding.proofs.Qubits.{bit-same, bit-other}
