@@ -1,5 +1,5 @@
 -- What C gets of a call is settled wherever the call's own contract settles its answer and what it leaves: the number returned, the value and what is
--- lent are the same in any two outcomes. Of the log files it is said in full; of the other calls it is the same law. Assumes nothing.
+-- lent are the same in any two outcomes. It is said of any call that gives one value, and in full of the log files. Assumes nothing.
 use mathlib.Core.Path.{_≡_, sym, ap, _∙_, refl}
 use mathlib.Core.List.{List}
 use Prim.Native.Nat.{ℕ}
