@@ -98,12 +98,13 @@ fn swept<T: PartialEq + Debug>(
     let m = set.m;
     let same = (0..m).all(|r| ours(r) == rust(r));
     agree(name, same.to_string(), true.to_string());
-    // a call of the centralizer looks at every row
-    let sweeps = if name == "belongs_to_centralizer" { 1 } else { CALLS.div_ceil(m) };
+    // these two take microseconds a call
+    let slow = ["belongs_to_centralizer", "fmt_elem"].contains(&name);
+    let sweeps = if slow { 1 } else { CALLS.div_ceil(m) };
     line(
         name,
         &size(set),
-        RUNS,
+        if slow { crate::runs(m) } else { RUNS },
         side(sweeps * m, || time(|| (0..sweeps * m).for_each(|i| _ = black_box(ours(black_box(i % m)))))),
         side(sweeps * m, || time(|| (0..sweeps * m).for_each(|i| _ = black_box(rust(black_box(i % m)))))),
         vec![],

@@ -51,7 +51,9 @@ pub fn side<'a>(calls: usize, run: impl FnMut() -> Duration + 'a) -> Side<'a> {
 
 /// The header of a table with calls of many rows.
 pub fn long_header() {
-    header(&format!("{RUNS} runs of each side ({FEW_RUNS} for more than 256 rows of the matrix and of a reduction)"));
+    header(&format!(
+        "{RUNS} runs of each side ({FEW_RUNS} for more than 256 rows of the matrix, a reduction or texts)"
+    ));
 }
 
 pub fn header(runs: &str) {
