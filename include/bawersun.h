@@ -19,7 +19,7 @@
  * A slice is a pointer and the number of its values. NULL with length 0 is an empty slice, and so is any pointer with length 0:
  * it is not read. A pointer to a single value (pauli, count, exponent, truth, clashes of imul, entries, t, place, length, real,
  * imag, the six numbers of a log file's front) is never NULL. Pointers are aligned as C aligns their types. No function keeps a
- * pointer, allocates, or has state: calls on different memory may run at the same time. No call takes more than 50 KiB of stack.
+ * pointer, allocates, or has state: calls on different memory may run at the same time. No call takes more than 128 KiB of stack.
  */
 #ifndef BAWERSUN_H
 #define BAWERSUN_H
