@@ -308,18 +308,36 @@ fn read_again(
     )
 }
 
-// The set's fields start at `end`.
-pub(crate) fn file(
-    s: &[u8],
-    end: usize,
-    x: &[u64],
-    z: &[u64],
-    p: &[u64],
-    out: &mut [u8],
-    r: Put,
-) -> Put {
+fn reread(s: &[u8], end: usize, x: &[u64], z: &[u64], p: &[u64], out: &mut [u8], r: Put) -> Put {
     let mut cx = [0u64; WORDS];
     let mut cz = [0u64; WORDS];
     let mut cp = [0u64; PHASES];
     read_again(s, end, x, z, p, &mut cx, &mut cz, &mut cp, out, r)
+}
+
+fn first_read(
+    s: &[u8],
+    end: usize,
+    x: &mut [u64],
+    z: &mut [u64],
+    p: &mut [u64],
+    out: &mut [u8],
+    r: Put,
+) -> Put {
+    let q = read::read_rows(s, end, x, z, p);
+    if !q.ok {
+        return say::bad(out, r);
+    }
+    let i = q.x;
+    let j = q.z;
+    let k = q.p;
+    reread(s, end, &x[0..i], &z[0..j], &p[0..k], out, r)
+}
+
+// The set's fields start at `end`.
+pub(crate) fn file(s: &[u8], end: usize, out: &mut [u8], r: Put) -> Put {
+    let mut x = [0u64; WORDS];
+    let mut z = [0u64; WORDS];
+    let mut p = [0u64; PHASES];
+    first_read(s, end, &mut x, &mut z, &mut p, out, r)
 }

@@ -1,10 +1,15 @@
-// The calls on a set. Its fields are read and its parts lent here, for all of them: what a call has besides stands behind. Each group adds the
-// answer to a line that names one of its own, and nothing to another.
+// The calls on a set. Its fields are read and its parts lent here, for all of them: what a call has besides stands behind.
+ghost use lib.ListN.{length, drop};
+ghost use Rattle.encoding.specs.Lent.{before};
+ghost use Rattle.forms.specs.Answers.{Says};
+ghost use Rattle.calls.specs.Answer.{lends, changes, onSet, withSet, bySet, Answers};
 use crate::PHASES;
 use crate::WORDS;
 use crate::conjugate;
-use crate::files;
-use crate::naming::is;
+use crate::naming::Changes;
+use crate::naming::Lends;
+use crate::naming::OnSet;
+use crate::naming::Reduces;
 use crate::pairwise;
 use crate::reducing;
 use crate::rows;
@@ -13,44 +18,10 @@ use forms::read;
 use forms::say;
 use text::Put;
 
-// Calls that read it. Its name ends at `end`, the set at `at`.
-fn reading(
-    s: &[u8],
-    end: usize,
-    at: usize,
-    n: usize,
-    m: usize,
-    x: &[u64],
-    z: &[u64],
-    p: &[u64],
-    out: &mut [u8],
-    r: Put,
-) -> Put {
-    if is(s, end, b"get") {
-        return rows::get(s, at, n, m, x, z, p, out, r);
-    }
-    if is(s, end, b"phase") {
-        return rows::phase(s, at, n, m, x, z, p, out, r);
-    }
-    if is(s, end, b"phaset") {
-        return rows::phase_by_table(s, at, n, m, x, z, p, out, r);
-    }
-    if is(s, end, b"comm") {
-        return rows::comm(s, at, n, m, x, z, p, out, r);
-    }
-    if is(s, end, b"count") {
-        return rows::count(s, at, n, m, x, z, p, out, r);
-    }
-    if is(s, end, b"central") {
-        return rows::central(s, at, n, m, x, z, p, out, r);
-    }
-    r
-}
-
-// Calls that read it and write elsewhere.
+// Calls that read it and write elsewhere. The set ends at `at`.
 fn lending(
+    c: Lends,
     s: &[u8],
-    end: usize,
     at: usize,
     n: usize,
     m: usize,
@@ -59,29 +30,21 @@ fn lending(
     p: &[u64],
     out: &mut [u8],
     r: Put,
-) -> Put {
-    if is(s, end, b"act") {
-        return rows::act(s, at, n, m, x, z, p, out, r);
+) -> Put
+    ensures { λ q. ⌜ Answers (lends c n (before m x z p) (drop at (now (s .entry)))) (now (out .entry)) r (now (out .exit)) q ⌝ }
+{
+    match c {
+        Lends::Act => rows::act(s, at, n, m, x, z, p, out, r),
+        Lends::Matrix => rows::matrix(s, at, n, m, x, z, p, out, r),
+        Lends::Write => texts::write(s, at, n, m, x, z, p, out, r),
+        Lends::Pair => pairwise::pair(s, at, n, m, x, z, p, out, r),
     }
-    if is(s, end, b"matrix") {
-        return rows::matrix(s, at, n, m, x, z, p, out, r);
-    }
-    if is(s, end, b"write") {
-        return texts::write(s, at, n, m, x, z, p, out, r);
-    }
-    if is(s, end, b"pair") {
-        return pairwise::pair(s, at, n, m, x, z, p, out, r);
-    }
-    if is(s, end, b"pwl") {
-        return files::file(s, end, x, z, p, out, r);
-    }
-    r
 }
 
 // Calls that change its rows one by one.
 fn changing(
+    c: Changes,
     s: &[u8],
-    end: usize,
     at: usize,
     n: usize,
     m: usize,
@@ -90,29 +53,22 @@ fn changing(
     p: &mut [u64],
     out: &mut [u8],
     r: Put,
-) -> Put {
-    if is(s, end, b"imul") {
-        return rows::imul(s, at, n, m, x, z, p, out, r);
+) -> Put
+    ensures { λ q. ⌜ Says (changes c n (before m x z p) (drop at (now (s .entry)))) (now (out .entry)) r (now (out .exit)) q ⌝ }
+{
+    match c {
+        Changes::Imul => rows::imul(s, at, n, m, x, z, p, out, r),
+        Changes::Set => rows::set(s, at, n, m, x, z, p, out, r),
+        Changes::Gate => conjugate::gate(s, at, n, m, x, z, p, out, r),
+        Changes::Read => texts::read_text(s, at, n, m, x, z, p, out, r),
+        Changes::Readx => texts::read_bytes(s, at, n, m, x, z, p, out, r),
     }
-    if is(s, end, b"set") {
-        return rows::set(s, at, n, m, x, z, p, out, r);
-    }
-    if is(s, end, b"gate") {
-        return conjugate::gate(s, at, n, m, x, z, p, out, r);
-    }
-    if is(s, end, b"read") {
-        return texts::read_text(s, at, n, m, x, z, p, out, r);
-    }
-    if is(s, end, b"readx") {
-        return texts::read_bytes(s, at, n, m, x, z, p, out, r);
-    }
-    r
 }
 
 // Reductions, the checker, and the way back.
 fn reductions(
+    c: Reduces,
     s: &[u8],
-    end: usize,
     at: usize,
     n: usize,
     m: usize,
@@ -122,57 +78,17 @@ fn reductions(
     out: &mut [u8],
     r: Put,
 ) -> Put {
-    if is(s, end, b"reduce") {
-        return reducing::reduce(s, at, n, m, x, z, p, out, r);
+    match c {
+        Reduces::Reduce => reducing::reduce(s, at, n, m, x, z, p, out, r),
+        Reduces::All => reducing::reduce_all(s, at, n, m, x, z, p, out, r),
+        Reduces::Check => reducing::check(s, at, n, m, x, z, p, out, r),
+        Reduces::Undo => reducing::undo(s, at, n, m, x, z, p, out, r),
     }
-    if is(s, end, b"reduceall") {
-        return reducing::reduce_all(s, at, n, m, x, z, p, out, r);
-    }
-    if is(s, end, b"check") {
-        return reducing::check(s, at, n, m, x, z, p, out, r);
-    }
-    if is(s, end, b"undo") {
-        return reducing::undo(s, at, n, m, x, z, p, out, r);
-    }
-    r
-}
-
-// The calls that leave it as it is, and those that do not.
-fn of_set(
-    s: &[u8],
-    end: usize,
-    at: usize,
-    n: usize,
-    m: usize,
-    x: &[u64],
-    z: &[u64],
-    p: &[u64],
-    out: &mut [u8],
-    r: Put,
-) -> Put {
-    let r = reading(s, end, at, n, m, x, z, p, out, r);
-    lending(s, end, at, n, m, x, z, p, out, r)
-}
-
-fn on_set(
-    s: &[u8],
-    end: usize,
-    at: usize,
-    n: usize,
-    m: usize,
-    x: &mut [u64],
-    z: &mut [u64],
-    p: &mut [u64],
-    out: &mut [u8],
-    r: Put,
-) -> Put {
-    let r = changing(s, end, at, n, m, x, z, p, out, r);
-    reductions(s, end, at, n, m, x, z, p, out, r)
 }
 
 fn called(
+    c: OnSet,
     s: &[u8],
-    end: usize,
     at: usize,
     n: usize,
     m: usize,
@@ -181,13 +97,21 @@ fn called(
     p: &mut [u64],
     out: &mut [u8],
     r: Put,
-) -> Put {
-    let r = of_set(s, end, at, n, m, x, z, p, out, r);
-    on_set(s, end, at, n, m, x, z, p, out, r)
+) -> Put
+    ensures { λ q. ⌜ Answers (onSet c n (before m x z p) (drop at (now (s .entry)))) (now (out .entry)) r (now (out .exit)) q ⌝ }
+{
+    match c {
+        OnSet::Two(k) => rows::two(k, s, at, n, m, x, z, p, out, r),
+        OnSet::One(k) => rows::one(k, s, at, n, m, x, z, p, out, r),
+        OnSet::Lent(k) => lending(k, s, at, n, m, x, z, p, out, r),
+        OnSet::Changed(k) => changing(k, s, at, n, m, x, z, p, out, r),
+        OnSet::Reduced(k) => reductions(k, s, at, n, m, x, z, p, out, r),
+    }
 }
 
 // On the parts that the line filled.
 fn filled(
+    c: OnSet,
     s: &[u8],
     end: usize,
     x: &mut [u64],
@@ -195,7 +119,10 @@ fn filled(
     p: &mut [u64],
     out: &mut [u8],
     r: Put,
-) -> Put {
+) -> Put
+    ensures { λ q. ⌜ Answers (withSet (length (now (x .entry))) (length (now (z .entry))) (length (now (p .entry))) c (drop end (now (s .entry))))
+        (now (out .entry)) r (now (out .exit)) q ⌝ }
+{
     let q = read::read_rows(s, end, x, z, p);
     if !q.ok {
         return say::bad(out, r);
@@ -204,8 +131,8 @@ fn filled(
     let j = q.z;
     let k = q.p;
     called(
+        c,
         s,
-        end,
         q.at,
         q.n,
         q.m,
@@ -218,9 +145,11 @@ fn filled(
 }
 
 // The answer to a line that names a call on a set.
-pub(crate) fn answer(s: &[u8], end: usize, out: &mut [u8], r: Put) -> Put {
+pub(crate) fn answer(c: OnSet, s: &[u8], end: usize, out: &mut [u8], r: Put) -> Put
+    ensures { λ q. ⌜ Answers (bySet c (drop end (now (s .entry)))) (now (out .entry)) r (now (out .exit)) q ⌝ }
+{
     let mut x = [0u64; WORDS];
     let mut z = [0u64; WORDS];
     let mut p = [0u64; PHASES];
-    filled(s, end, &mut x, &mut z, &mut p, out, r)
+    filled(c, s, end, &mut x, &mut z, &mut p, out, r)
 }

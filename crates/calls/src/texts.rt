@@ -1,11 +1,33 @@
 // The calls on the text of a row: written into lent bytes, and read, from the rest of the line or from a list of bytes. These bytes are few,
 // and made for the line that has them.
+ghost use lib.ListN.{length, drop};
+ghost use Rattle.encoding.specs.Lent.{before};
+ghost use Rattle.forms.specs.Answers.{Says};
+ghost use Rattle.calls.specs.Answer.{rowWritten, writeIn, rowRead, readLine, readxIn};
+ghost use Rattle.calls.specs.Limits.{mostText};
 use crate::TEXT;
 use forms::read;
 use forms::say;
 use pauli::RowNumber;
 use text::Put;
 use text::number_field;
+
+fn into_bytes(
+    n: usize,
+    m: usize,
+    x: &[u64],
+    z: &[u64],
+    p: &[u64],
+    row: usize,
+    b: &mut [u8],
+    out: &mut [u8],
+    r: Put,
+) -> Put
+    ensures { λ q. ⌜ Says (rowWritten n (before m x z p) row (length (now (b .entry)))) (now (out .entry)) r (now (out .exit)) q ⌝ }
+{
+    let a = row_text::fmt_elem(n, m, x, z, p, RowNumber(row), b);
+    say::written(out, r, a, b)
+}
 
 fn written(
     s: &[u8],
@@ -18,31 +40,17 @@ fn written(
     b: &mut [u8],
     out: &mut [u8],
     r: Put,
-) -> Put {
-    let q = read::read_two(s, at);
-    if !(q.ok & (q.at == s.len())) {
+) -> Put
+    ensures { λ q. ⌜ Says (writeIn (length (now (b .entry))) n (before m x z p) (drop at (now (s .entry))))
+        (now (out .entry)) r (now (out .exit)) q ⌝ }
+{
+    let q = number_field(s, at, u64::MAX);
+    let l = number_field(s, q.at, b.len() as u64);
+    if !((q.ok & l.ok) & (l.at == s.len())) {
         return say::bad(out, r);
     }
-    let e = q.b;
-    if e > b.len() {
-        return say::bad(out, r);
-    }
-    into_bytes(n, m, x, z, p, q.a, &mut b[0..e], out, r)
-}
-
-fn into_bytes(
-    n: usize,
-    m: usize,
-    x: &[u64],
-    z: &[u64],
-    p: &[u64],
-    row: usize,
-    b: &mut [u8],
-    out: &mut [u8],
-    r: Put,
-) -> Put {
-    let a = row_text::fmt_elem(n, m, x, z, p, RowNumber(row), b);
-    say::written(out, r, a, b)
+    let e = l.value as usize;
+    into_bytes(n, m, x, z, p, q.value as usize, &mut b[0..e], out, r)
 }
 
 pub(crate) fn write(
@@ -55,7 +63,9 @@ pub(crate) fn write(
     p: &[u64],
     out: &mut [u8],
     r: Put,
-) -> Put {
+) -> Put
+    ensures { λ q. ⌜ Says (writeIn mostText n (before m x z p) (drop at (now (s .entry)))) (now (out .entry)) r (now (out .exit)) q ⌝ }
+{
     let mut b = [0u8; TEXT];
     written(s, at, n, m, x, z, p, &mut b, out, r)
 }
@@ -70,7 +80,9 @@ fn parsed(
     t: &[u8],
     out: &mut [u8],
     r: Put,
-) -> Put {
+) -> Put
+    ensures { λ q. ⌜ Says (rowRead n (before m x z p) row (now (t .entry))) (now (out .entry)) r (now (out .exit)) q ⌝ }
+{
     let a = row_text::parse_elem(n, m, x, z, p, RowNumber(row), t);
     say::changed(out, r, a, x, z, p)
 }
@@ -85,7 +97,9 @@ pub(crate) fn read_text(
     p: &[u64],
     out: &mut [u8],
     r: Put,
-) -> Put {
+) -> Put
+    ensures { λ q. ⌜ Says (readLine n (before m x z p) (drop at (now (s .entry)))) (now (out .entry)) r (now (out .exit)) q ⌝ }
+{
     let q = number_field(s, at, u64::MAX);
     let t = read::read_rest(s, q.at);
     if !(q.ok & t.ok) {
@@ -107,10 +121,13 @@ fn taken(
     b: &mut [u8],
     out: &mut [u8],
     r: Put,
-) -> Put {
+) -> Put
+    ensures { λ q. ⌜ Says (readxIn (length (now (b .entry))) n (before m x z p) (drop at (now (s .entry))))
+        (now (out .entry)) r (now (out .exit)) q ⌝ }
+{
     let q = number_field(s, at, u64::MAX);
     let l = text::octets_field(s, q.at, b);
-    if !(q.ok & (l.ok & (l.at == s.len()))) {
+    if !((q.ok & l.ok) & (l.at == s.len())) {
         return say::bad(out, r);
     }
     let e = l.count;
@@ -127,7 +144,9 @@ pub(crate) fn read_bytes(
     p: &[u64],
     out: &mut [u8],
     r: Put,
-) -> Put {
+) -> Put
+    ensures { λ q. ⌜ Says (readxIn mostText n (before m x z p) (drop at (now (s .entry)))) (now (out .entry)) r (now (out .exit)) q ⌝ }
+{
     let mut b = [0u8; TEXT];
     taken(s, at, n, m, x, z, p, &mut b, out, r)
 }
