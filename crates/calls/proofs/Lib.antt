@@ -2,5 +2,4 @@ pub mod Kit
 pub mod Said
 pub mod Left
 pub mod Gating
-pub mod Spelled
 pub mod Lined

@@ -5,9 +5,9 @@ use mathlib.Core.Option.{Option, some}
 use Rattle.text.specs.Readers.{starts}
 use Rattle.forms.specs.Answers.{badLine}
 use Rattle.text.specs.declared.write.Put.{Put}
-use Rattle.calls.specs.Names.{callOf, nameEnd}
+use Rattle.naming.specs.Names.{callOf, nameEnd}
 use Rattle.calls.specs.Answer.{answerTo, blank, answerOf, Answers, behindSet}
-use Rattle.calls.specs.declared.naming.Call.{Call}
+use Rattle.naming.specs.declared.Call.{Call}
 
 pub answers-as : {a b : Option (List ℕ)} → a ≡ b → (o : List ℕ) (r : Put) (p : List ℕ) (q : Put) → Answers b o r p q → Answers a o r p q
 answers-as e o r p q h = subst (λ (x : Option (List ℕ)). Answers x o r p q) (sym e) h
@@ -19,7 +19,7 @@ pub no-answer : (s : List ℕ) → blank s ≡ true → answerOf s ≡ some []
 unfolding answerOf
 no-answer s h = rw h
 
-pub by-call : (s : List ℕ) {n : ℕ} {c : Call} → blank s ≡ false → n ≡ nameEnd s → c ≡ callOf (take n s) → answerOf s ≡ answerTo c (drop n s)
+pub by-call : (s : List ℕ) {n : ℕ} {c : Call} → blank s ≡ false → n ≡ nameEnd s → c ≡ callOf (take (nameEnd s) s) → answerOf s ≡ answerTo c (drop n s)
 unfolding answerOf
 by-call s h e k = rw (k, e, h)
 

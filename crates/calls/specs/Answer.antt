@@ -1,7 +1,7 @@
 -- docs/CALLS.md as a definition: the bytes that answer a line. Each call is said by the fields of its line, in order, and by the answer to them, which is
 -- that of the library's own definitions; a line that is not of the form is a bad line. Assumes nothing.
 use mathlib.Core.Bool.{Bool, cond, _||_}
-use mathlib.Core.List.{List, [], _∷_}
+use mathlib.Core.List.{List, [], _∷_, _++_}
 use mathlib.Core.Option.{Option, some, none as unsaid}
 use Prim.Native.Nat.{ℕ, zero, suc, _%_}
 use lib.Bits.{bitXor}
@@ -14,14 +14,14 @@ use Rattle.pauli.specs.Rows.{clashesOf, withQubit, actOn, actPhaseOn}
 use Rattle.encoding.specs.Words.{bits}
 use Rattle.encoding.specs.Words as words
 use Rattle.encoding.specs.Set.{Mem, memOf, count, rowsOf, lay, stateOf, layState}
-use Rattle.encoding.specs.Refusals.{rowsLines}
-use Rattle.encoding.specs.Ranks.{byRank}
-use Rattle.cmpnt_list.specs.Calls.{rowFault, getQubit, countIn, phaseOfMul, commutesWith, belongsToCentralizer, qubitFault, actionFault, matrixFault, laidMatrix, commuting}
+use Rattle.encoding.specs.Refusals.{rowLines, rowsLines}
+use Rattle.encoding.specs.Ranks.{byRank, line}
+use Rattle.cmpnt_list.specs.Calls.{getQubit, countIn, phaseOfMul, commutesWith, belongsToCentralizer, qubitFault, actionFault, matrixFault, laidMatrix, commuting}
 use Rattle.gates.specs.Gates.{conjRows}
 use Rattle.gates.specs.declared.Gate.{Gate}
 use Rattle.clifford.specs.Calls.{gateFault}
 use Rattle.row_text.specs.Text.{textOf, rowOf}
-use Rattle.row_text.specs.Calls.{orElse, parseFault, withRow}
+use Rattle.row_text.specs.Calls.{parseFault, withRow}
 use Rattle.reduction.specs.Rule.{mulAt}
 use Rattle.text.specs.Readers.{Got, none, got, starts}
 use Rattle.text.specs.declared.write.Put.{Put}
@@ -32,20 +32,20 @@ use Rattle.text.specs.Lines as kind
 use Rattle.forms.specs.Form.{any, rowsKinds, letter, rest, then}
 use Rattle.forms.specs.Answers.{badLine, refuse, okNumber, actedWord, gotLine, phaseLine, truthLine, countLine, okSet, okProduct, okActed, okMatrix, okText, Says}
 use Rattle.calls.specs.Gate.{gate}
-use Rattle.calls.specs.Names.{callOf, nameEnd}
+use Rattle.naming.specs.Names.{callOf, nameEnd}
 use Rattle.calls.specs.Limits.{mostWords, mostPhases, mostText}
-use Rattle.calls.specs.declared.naming.OfTwo.{OfTwo}
-use Rattle.calls.specs.declared.naming.OfTwo.the-variants.{Get, Phase, Table, Comm}
-use Rattle.calls.specs.declared.naming.OfOne.{OfOne}
-use Rattle.calls.specs.declared.naming.OfOne.the-variants.{Count, Central}
-use Rattle.calls.specs.declared.naming.Lends.{Lends}
-use Rattle.calls.specs.declared.naming.Lends.the-variants.{Act, Matrix, Write, Pair}
-use Rattle.calls.specs.declared.naming.Changes.{Changes}
-use Rattle.calls.specs.declared.naming.Changes.the-variants as change
-use Rattle.calls.specs.declared.naming.OnSet.{OnSet}
-use Rattle.calls.specs.declared.naming.OnSet.the-variants.{Two, One, Lent, Changed, Reduced}
-use Rattle.calls.specs.declared.naming.Call.{Call}
-use Rattle.calls.specs.declared.naming.Call.the-variants.{Unknown, Phase1, Act1, Whole, Float as FloatCall, States, Pwl, Set}
+use Rattle.naming.specs.declared.OfTwo.{OfTwo}
+use Rattle.naming.specs.declared.OfTwo.the-variants.{Get, Phase, Table, Comm}
+use Rattle.naming.specs.declared.OfOne.{OfOne}
+use Rattle.naming.specs.declared.OfOne.the-variants.{Count, Central}
+use Rattle.naming.specs.declared.Lends.{Lends}
+use Rattle.naming.specs.declared.Lends.the-variants.{Act, Matrix, Write, Pair}
+use Rattle.naming.specs.declared.Changes.{Changes}
+use Rattle.naming.specs.declared.Changes.the-variants as change
+use Rattle.naming.specs.declared.OnSet.{OnSet}
+use Rattle.naming.specs.declared.OnSet.the-variants.{Two, One, Lent, Changed, Reduced}
+use Rattle.naming.specs.declared.Call.{Call}
+use Rattle.naming.specs.declared.Call.the-variants.{Unknown, Phase1, Act1, Whole, Float as FloatCall, States, Pwl, Set}
 
 -- ---- the form of a line
 
@@ -147,7 +147,7 @@ matrixIn room n M t = closed (field (kind.read (one room))) (compared n M) t
 
 -- 14: the text is longer than the bytes that are lent
 abbrev pub rowWritten : ℕ → Mem → ℕ → ℕ → List ℕ
-rowWritten n M r size = refusedOr (orElse (rowFault n M r) (cond (ltb size (length (textOf (rowsOf n M r .ps)))) 14 0))
+rowWritten n M r size = refusedOr (byRank (rowLines n M r ++ (line 14 (ltb size (length (textOf (rowsOf n M r .ps)))) ∷ [])))
     (okText (length (textOf (rowsOf n M r .ps))) (textOf (rowsOf n M r .ps)))
 
 unfoldable pub writeIn : ℕ → ℕ → Mem → List ℕ → List ℕ

@@ -6,11 +6,10 @@ use crate::ANSWER;
 use crate::TERMS;
 use crate::elements;
 use crate::files;
-use crate::naming;
-use crate::naming::Call;
 use crate::sets;
 use crate::words;
 use forms::say;
+use naming::Call;
 use text::Put;
 
 // The call made, on the fields that stand behind its name.
@@ -63,6 +62,6 @@ pub(crate) fn answer(
         return r;
     }
     let n = naming::name_end(s);
-    let c = naming::call_of(s, n);
+    let c = naming::call_of(s);
     made(c, s, n, tx, tz, re, im, fre, fim, out, r)
 }

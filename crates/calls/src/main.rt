@@ -4,7 +4,6 @@ mod elements;
 mod feed;
 mod files;
 mod line;
-mod naming;
 mod pairwise;
 mod reducing;
 mod rows;

@@ -6,16 +6,16 @@ ghost use Rattle.calls.specs.Answer.{lends, changes, onSet, withSet, byS
 use crate::PHASES;
 use crate::WORDS;
 use crate::conjugate;
-use crate::naming::Changes;
-use crate::naming::Lends;
-use crate::naming::OnSet;
-use crate::naming::Reduces;
 use crate::pairwise;
 use crate::reducing;
 use crate::rows;
 use crate::texts;
 use forms::read;
 use forms::say;
+use naming::Changes;
+use naming::Lends;
+use naming::OnSet;
+use naming::Reduces;
 use text::Put;
 
 // Calls that read it and write elsewhere. The set ends at `at`.

@@ -1,6 +1,4 @@
 use borrow.Author.Needs.{needs}
-use Prim.Native.Nat.{_+_}
-use Rattle.encoding.specs.Limits.{maxQubits}
 use Rattle.replay.proofs.Marks.{zeros}
 use Rattle.pwl.proofs.testing.twice.Statement.{statement}
 use Rattle.pwl.proofs.testing.twice.Tie as tie

@@ -3,10 +3,10 @@ ghost use mathlib.Core.Path.{_≡_};
 ghost use mathlib.Core.Bool.{cond};
 ghost use Prim.Native.Nat.{_≤_};
 ghost use lib.ListN.{length, take};
-ghost use Rattle.calls.specs.Names.{same, byName, callOf, nameEnd, ofTwo, ofOne, lending as lendingNames, changing as changingNames, reducing as reducingNames, others as otherNames};
+ghost use Rattle.naming.specs.Names.{same, byName, callOf, nameEnd, ofTwo, ofOne, lending as lendingNames, changing as changingNames, reducing as reducingNames, others as otherNames};
 
 // Of a set that stays as it is: two rows, or a row and a qubit.
-pub(crate) enum OfTwo {
+pub enum OfTwo {
     Get,
     Phase,
     Table,
@@ -14,13 +14,13 @@ pub(crate) enum OfTwo {
 }
 
 // One row.
-pub(crate) enum OfOne {
+pub enum OfOne {
     Count,
     Central,
 }
 
 // Calls that write elsewhere.
-pub(crate) enum Lends {
+pub enum Lends {
     Act,
     Matrix,
     Write,
@@ -28,7 +28,7 @@ pub(crate) enum Lends {
 }
 
 // Calls that change its rows one by one.
-pub(crate) enum Changes {
+pub enum Changes {
     Imul,
     Set,
     Gate,
@@ -37,14 +37,14 @@ pub(crate) enum Changes {
 }
 
 // Reductions, the checker, and the way back.
-pub(crate) enum Reduces {
+pub enum Reduces {
     Reduce,
     All,
     Check,
     Undo,
 }
 
-pub(crate) enum OnSet {
+pub enum OnSet {
     Two(OfTwo),
     One(OfOne),
     Lent(Lends),
@@ -52,7 +52,7 @@ pub(crate) enum OnSet {
     Reduced(Reduces),
 }
 
-pub(crate) enum Call {
+pub enum Call {
     Unknown,
     Phase1,
     Act1,
@@ -64,7 +64,7 @@ pub(crate) enum Call {
 }
 
 // Where the name ends: at the first space, or with the line.
-pub(crate) fn name_end(s: &[u8]) -> usize
+pub fn name_end(s: &[u8]) -> usize
     ensures { λ r. ⌜ (r ≡ nameEnd (now (s .entry))) × (r ≤ length (now (s .entry))) ⌝ }
 {
     let mut i = 0;
@@ -199,7 +199,7 @@ fn others(s: &[u8], n: usize, other: Call) -> Call
 }
 
 // The call that the first n bytes name.
-pub(crate) fn call_of(s: &[u8], n: usize) -> Call
+fn call_at(s: &[u8], n: usize) -> Call
     requires { ⌜ n ≤ length (now s) ⌝ }
     ensures { λ r. ⌜ r ≡ callOf (take n (now (s .entry))) ⌝ }
 {
@@ -209,4 +209,12 @@ pub(crate) fn call_of(s: &[u8], n: usize) -> Call
     let c = of_one(s, n, c);
     let c = of_two(s, n, c);
     others(s, n, c)
+}
+
+// The call that a line names.
+pub fn call_of(s: &[u8]) -> Call
+    ensures { λ r. ⌜ r ≡ callOf (take (nameEnd (now (s .entry))) (now (s .entry))) ⌝ }
+{
+    let n = name_end(s);
+    call_at(s, n)
 }

@@ -4,14 +4,14 @@ use mathlib.Core.List.{List, [], _∷_, _++_}
 use Prim.Native.Nat.{ℕ, suc}
 use lib.Dec.{eqb}
 use Rattle.forms.specs.Answers.{letters}
-use Rattle.calls.specs.declared.naming.OfTwo.the-variants.{Get, Phase, Table, Comm}
-use Rattle.calls.specs.declared.naming.OfOne.the-variants.{Count, Central}
-use Rattle.calls.specs.declared.naming.Lends.the-variants.{Act, Matrix, Write, Pair}
-use Rattle.calls.specs.declared.naming.Changes.the-variants as change
-use Rattle.calls.specs.declared.naming.Reduces.the-variants as reduce
-use Rattle.calls.specs.declared.naming.OnSet.the-variants.{Two, One, Lent, Changed, Reduced}
-use Rattle.calls.specs.declared.naming.Call.{Call}
-use Rattle.calls.specs.declared.naming.Call.the-variants.{Unknown, Phase1, Act1, Whole, Float, States, Pwl, Set}
+use Rattle.naming.specs.declared.OfTwo.the-variants.{Get, Phase, Table, Comm}
+use Rattle.naming.specs.declared.OfOne.the-variants.{Count, Central}
+use Rattle.naming.specs.declared.Lends.the-variants.{Act, Matrix, Write, Pair}
+use Rattle.naming.specs.declared.Changes.the-variants as change
+use Rattle.naming.specs.declared.Reduces.the-variants as reduce
+use Rattle.naming.specs.declared.OnSet.the-variants.{Two, One, Lent, Changed, Reduced}
+use Rattle.naming.specs.declared.Call.{Call}
+use Rattle.naming.specs.declared.Call.the-variants.{Unknown, Phase1, Act1, Whole, Float, States, Pwl, Set}
 
 -- two texts are the same
 abbrev pub same : List ℕ → List ℕ → Bool

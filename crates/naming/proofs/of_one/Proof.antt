@@ -1,6 +1,6 @@
-use Rattle.calls.proofs.Kit.{needs}
-use Rattle.calls.proofs.naming.of_one.Statement.{statement}
-use Rattle.calls.proofs.naming.of_one.Tie as tie
+use Rattle.text.proofs.Kit.{needs}
+use Rattle.naming.proofs.of_one.Statement.{statement}
+use Rattle.naming.proofs.of_one.Tie as tie
 
 returns : tie.Need-returns
 returns c =

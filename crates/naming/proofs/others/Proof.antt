@@ -1,6 +1,6 @@
-use Rattle.calls.proofs.Kit.{needs}
-use Rattle.calls.proofs.naming.others.Statement.{statement}
-use Rattle.calls.proofs.naming.others.Tie as tie
+use Rattle.text.proofs.Kit.{needs}
+use Rattle.naming.proofs.others.Statement.{statement}
+use Rattle.naming.proofs.others.Tie as tie
 
 returns : tie.Need-returns
 returns c =

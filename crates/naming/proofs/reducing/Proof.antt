@@ -1,6 +1,6 @@
-use Rattle.calls.proofs.Kit.{needs}
-use Rattle.calls.proofs.naming.reducing.Statement.{statement}
-use Rattle.calls.proofs.naming.reducing.Tie as tie
+use Rattle.text.proofs.Kit.{needs}
+use Rattle.naming.proofs.reducing.Statement.{statement}
+use Rattle.naming.proofs.reducing.Tie as tie
 
 returns : tie.Need-returns
 returns c =

@@ -1,7 +1,7 @@
 -- Names: a name ends where the scan stops, and bytes compared one by one are compared. What is left to compare is compared as the whole is, since
 -- what was passed was the same (`drop-cons`).
-use Rattle.calls.proofs.Kit.{_≡_, refl, ap, _∙_, Bool, true, false, _&&_, List, [], _∷_, ℕ, suc, _+_, _<_, _≤_, arith, length, drop, getD, eqb, eq-eqb, ne-eqb, add-one, drop-cons, drop-of-length-le}
-use Rattle.calls.specs.Names.{same, nameEnd}
+use Rattle.text.proofs.Kit.{_≡_, refl, ap, _∙_, Bool, true, false, _&&_, List, [], _∷_, ℕ, suc, _+_, _<_, _≤_, arith, length, drop, getD, eqb, eq-eqb, ne-eqb, add-one, drop-cons, drop-of-length-le}
+use Rattle.naming.specs.Names.{same, nameEnd}
 
 -- ---- where a name ends: so far and what is left
 

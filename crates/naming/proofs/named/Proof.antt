@@ -1,6 +1,6 @@
-use Rattle.calls.proofs.Kit.{sym, needs}
-use Rattle.calls.proofs.naming.named.Statement.{statement}
-use Rattle.calls.proofs.naming.named.Tie as tie
+use Rattle.text.proofs.Kit.{sym, needs}
+use Rattle.naming.proofs.named.Statement.{statement}
+use Rattle.naming.proofs.named.Tie as tie
 
 returns : tie.Need-returns
 returns c =

@@ -1,11 +1,11 @@
 -- Byte by byte: the two have one length, and what is left is compared as the whole is, since what was passed was the same.
 -- A byte that differs, or the end, decides (`same-not`, `same-all`).
-use Rattle.calls.proofs.Kit.{_≡_, refl, sym, _∙_, _-_, _≤_, arith, needs, length, take, drop}
+use Rattle.text.proofs.Kit.{_≡_, refl, sym, _∙_, _-_, _≤_, arith, needs, length, take, drop}
 use lib.Seq.{length-take-le, getD-take}
-use Rattle.calls.proofs.Spelled.{same-lengths, same-on, same-not, same-all}
-use Rattle.calls.specs.Names.{same}
-use Rattle.calls.proofs.naming.is.Statement.{statement}
-use Rattle.calls.proofs.naming.is.Tie as tie
+use Rattle.naming.proofs.Spelled.{same-lengths, same-on, same-not, same-all}
+use Rattle.naming.specs.Names.{same}
+use Rattle.naming.proofs.is.Statement.{statement}
+use Rattle.naming.proofs.is.Tie as tie
 
 -- the two have one length, and what is left is compared as the whole is
 

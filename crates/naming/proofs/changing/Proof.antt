@@ -1,6 +1,6 @@
-use Rattle.calls.proofs.Kit.{needs}
-use Rattle.calls.proofs.naming.changing.Statement.{statement}
-use Rattle.calls.proofs.naming.changing.Tie as tie
+use Rattle.text.proofs.Kit.{needs}
+use Rattle.naming.proofs.changing.Statement.{statement}
+use Rattle.naming.proofs.changing.Tie as tie
 
 returns : tie.Need-returns
 returns c =

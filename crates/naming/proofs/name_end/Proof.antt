@@ -1,10 +1,10 @@
 -- The scan has passed no space, so that the name ends as far behind as the rest says.
 -- At a space, or at the end, it ends here (`end-here`, `end-last`).
-use Rattle.calls.proofs.Kit.{_≡_, _+_, _-_, _≤_, arith, needs, length, drop}
-use Rattle.calls.proofs.Spelled.{end-first, end-here, end-on, end-last}
-use Rattle.calls.specs.Names.{nameEnd}
-use Rattle.calls.proofs.naming.name_end.Statement.{statement}
-use Rattle.calls.proofs.naming.name_end.Tie as tie
+use Rattle.text.proofs.Kit.{_≡_, _+_, _-_, _≤_, arith, needs, length, drop}
+use Rattle.naming.proofs.Spelled.{end-first, end-here, end-on, end-last}
+use Rattle.naming.specs.Names.{nameEnd}
+use Rattle.naming.proofs.name_end.Statement.{statement}
+use Rattle.naming.proofs.name_end.Tie as tie
 
 abbrev Inv-loop : tie.InvT-loop
 Inv-loop s i₀ i = (i ≤ length s) × (nameEnd s ≡ i + nameEnd (drop i s))
