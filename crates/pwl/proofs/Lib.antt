@@ -8,6 +8,7 @@ pub mod Stores
 pub mod Writes
 pub mod Fetches
 pub mod Tests
+pub mod Marks
 pub mod Runs
 pub mod Filling
 pub mod Meaning

@@ -1,9 +1,11 @@
 -- What inner functions ask and leave. Assumes nothing.
 use mathlib.Core.Path.{_≡_}
+use mathlib.Core.Bool.{true}
 use mathlib.Core.List.{List, [], _∷_, _++_}
-use Prim.Native.Nat.{ℕ, _+_, _*_, _≤_}
+use Prim.Native.Nat.{ℕ, _+_, _*_, _/_, _%_, _≤_}
 use lib.Dec.{ltb}
-use lib.ListN.{length, drop}
+use lib.ListN.{length, getD, drop, set}
+use Rattle.encoding.specs.Words.{withBit}
 use Rattle.encoding.specs.Set.{Mem, memOf, phaseUnits}
 use Rattle.encoding.specs.Ranks.{line, byRank}
 use Rattle.text.specs.Readers.{over}
@@ -66,3 +68,7 @@ placesOf f = placesBy (f .m * wordsOf (f .n)) (phaseUnits (f .m)) f
 -- the first line that fits what was to be reduced, of the run in a file
 abbrev pub TaskFault : Front → List ℕ → ℕ → Type 0
 TaskFault f s k = k ≡ reduceFault (f .n) (taskOf (runBy f s) .start) (runBy f s .order) (runBy f s .listed) (runBy f s .extra)
+
+-- a number's mark is a bit: k has got its own
+unfoldable pub marked : ℕ → List ℕ → List ℕ
+marked k marks = set marks (k / 64) (withBit (getD marks (k / 64) 0) (k % 64) true)

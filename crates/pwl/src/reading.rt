@@ -130,8 +130,8 @@ fn fill(
     claimed: &mut [u64],
 )
     requires { ⌜ (at ≡ placesOf f) × (wholeLen f ≤ length (now s)) ⌝ }
-    requires { ⌜ (f .order + f .listed + f .extra + 2 * f .entries ≤ length (now units)) × (at .words ≤ length (now x)) × (at .words ≤ length (now z))
-        × (at .phases ≤ length (now p)) × (at .words + (at .words + at .phases) ≤ length (now claimed)) ⌝ }
+    requires { ⌜ (f .order + f .listed + f .extra + 2 * f .entries ≤ length (now units)) × (at .words ≤ length (now x))
+        × (at .words ≤ length (now z)) × (at .phases ≤ length (now p)) × (at .words + (at .words + at .phases) ≤ length (now claimed)) ⌝ }
     ensures { λ _. ⌜ outputsAfter units x z p claimed
         ≡ filledBy (runBy f (now (s .entry))) (outputsBefore units x z p claimed) ⌝ }
 {

@@ -38,7 +38,8 @@ fn put(v: u64, k: usize, at: usize, out: &mut [u8])
 // The numbers of a list at a place, two bytes each; the place behind them is returned.
 fn put_units(list: &[u16], at: usize, out: &mut [u8]) -> usize
     requires { ⌜ at + 2 * length (now list) ≤ length (now out) ⌝ }
-    ensures { λ r. ⌜ (r ≡ at + 2 * length (now (list .entry))) × (now (out .exit) ≡ over (les 2 (now (list .entry))) at (now (out .entry))) ⌝ }
+    ensures { λ r. ⌜ (r ≡ at + 2 * length (now (list .entry)))
+        × (now (out .exit) ≡ over (les 2 (now (list .entry))) at (now (out .entry))) ⌝ }
 {
     let mut i = 0;
     let mut p = at;
@@ -53,7 +54,8 @@ fn put_units(list: &[u16], at: usize, out: &mut [u8]) -> usize
 // The same with eight bytes each.
 fn put_words(list: &[u64], at: usize, out: &mut [u8]) -> usize
     requires { ⌜ at + 8 * length (now list) ≤ length (now out) ⌝ }
-    ensures { λ r. ⌜ (r ≡ at + 8 * length (now (list .entry))) × (now (out .exit) ≡ over (les 8 (now (list .entry))) at (now (out .entry))) ⌝ }
+    ensures { λ r. ⌜ (r ≡ at + 8 * length (now (list .entry)))
+        × (now (out .exit) ≡ over (les 8 (now (list .entry))) at (now (out .entry))) ⌝ }
 {
     let mut i = 0;
     let mut p = at;

@@ -1,7 +1,7 @@
 // The table over a file's bytes: what is refused is refused before anything is written.
 ghost use mathlib.Core.Path.{_≡_};
 ghost use mathlib.Core.Bool.{false};
-ghost use Prim.Native.Nat.{_+_, _*_, _-_, _≤_, _<_};
+ghost use Prim.Native.Nat.{_+_, _*_, _-_, _/_, _≤_, _<_};
 ghost use lib.ListN.{length, drop};
 ghost use Rattle.encoding.specs.Limits.{maxQubits, maxRows, wordsOf};
 ghost use Rattle.encoding.specs.Words.{word as Words·word};
@@ -11,11 +11,11 @@ ghost use Rattle.encoding.specs.Ranks.{byRank};
 ghost use Rattle.terms.specs.Refused.{repeated, listLines};
 ghost use Rattle.terms.specs.Workers.{Blank};
 ghost use Rattle.pwl.specs.Bytes.{nums};
-ghost use Rattle.pwl.specs.Workers.{setAt};
+ghost use Rattle.pwl.specs.Workers.{setAt, marked};
 use crate::bytes::two;
 use crate::bytes::word;
 use encoding::MAX_QUBITS;
-use encoding::MAX_ROWS;
+use encoding::bit_in;
 use encoding::pick;
 
 // Whether one of the count numbers of two bytes each from a place on is `limit` or above.
@@ -33,27 +33,32 @@ fn too_large(s: &[u8], at: usize, count: usize, limit: usize) -> bool
     false
 }
 
-// The marks of a number: not seen yet, seen.
-const NONE: u8 = 0;
+// Words with a mark for each column of the longest row.
+const MARKS: usize = 2 * MAX_QUBITS / 64;
 
-const SEEN: u8 = 1;
-
-// The columns of the longest row.
-const MAX_COLUMNS: usize = 2 * MAX_QUBITS;
+// A number gets its mark: bit k mod 64 of word k div 64.
+fn mark(marks: &mut [u64], k: usize)
+    requires { ⌜ k / 64 < length (now marks) ⌝ }
+    ensures { λ _. ⌜ now (marks .exit) ≡ marked k (now (marks .entry)) ⌝ }
+{
+    let j = k / 64;
+    marks[j] = marks[j] | (1u64 << (k % 64));
+}
 
 // Whether one of them is there twice: each is marked as it comes, and one that has its mark came before.
-fn marked_twice(s: &[u8], at: usize, count: usize, marks: &mut [u8]) -> bool
-    requires { ⌜ (at + 2 * count ≤ length (now s)) × (some (tooLarge (length (now marks))) (nums 2 count (drop at (now s))) ≡ false) ⌝ }
+fn marked_twice(s: &[u8], at: usize, count: usize, marks: &mut [u64]) -> bool
+    requires { ⌜ at + 2 * count ≤ length (now s) ⌝ }
+    requires { ⌜ some (tooLarge (64 * length (now marks))) (nums 2 count (drop at (now s))) ≡ false ⌝ }
     requires { ⌜ Blank (now marks) ⌝ }
     ensures { λ r. ⌜ r ≡ repeated (nums 2 count (drop at (now (s .entry)))) ⌝ }
 {
     let mut i = 0;
     while i < count {
         let k = two(s, at + 2 * i);
-        if marks[k] != NONE {
+        if bit_in(marks, k) {
             return true;
         }
-        marks[k] = SEEN;
+        mark(marks, k);
         i += 1;
     }
     false
@@ -63,7 +68,7 @@ fn twice(s: &[u8], at: usize, count: usize) -> bool
     requires { ⌜ (at + 2 * count ≤ length (now s)) × (some (tooLarge (maxQubits + maxQubits)) (nums 2 count (drop at (now s))) ≡ false) ⌝ }
     ensures { λ r. ⌜ r ≡ repeated (nums 2 count (drop at (now (s .entry)))) ⌝ }
 {
-    let mut marks = [NONE; MAX_COLUMNS];
+    let mut marks = [0u64; MARKS];
     marked_twice(s, at, count, &mut marks)
 }
 
@@ -148,7 +153,8 @@ fn bad_phases(s: &[u8], at: usize, m: usize, v: usize) -> bool
 
 // 4 or 5 of a set that lies from a place on; else 0.
 pub(crate) fn set_fault(s: &[u8], at: usize, n: usize, m: usize, q: usize, v: usize) -> u8
-    requires { ⌜ (n ≤ maxQubits) × (m ≤ maxRows) × (q ≡ m * wordsOf n) × (v ≡ phaseUnits m) × (at + 8 * q + 8 * q + 8 * v ≤ length (now s)) ⌝ }
+    requires { ⌜ (n ≤ maxQubits) × (m ≤ maxRows) × (q ≡ m * wordsOf n) × (v ≡ phaseUnits m)
+        × (at + 8 * q + 8 * q + 8 * v ≤ length (now s)) ⌝ }
     ensures { λ r. ⌜ r ≡ byRank (setLines n (setAt m q v at (now (s .entry)))) ⌝ }
     ensures valid { λ r. ⌜ (r ≡ 0 → Valid n (wordsOf n) (setAt m q v at (now (s .entry)))) ⌝ }
 {

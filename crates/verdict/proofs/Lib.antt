@@ -1,1 +1,5 @@
+pub mod Passing
 pub mod Rooms
+pub mod Parts
+pub mod Lines
+pub mod Demand

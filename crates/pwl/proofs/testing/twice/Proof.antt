@@ -7,7 +7,7 @@ use Rattle.pwl.proofs.testing.twice.Lts as lts
 use Rattle.pwl.proofs.testing.marked_twice.Reads as marked-twice-reads
 
 marked-twice-requires : tie.Need-marked-twice-requires
-marked-twice-requires c κs = ((search needs, search needs), zeros (maxQubits + maxQubits))
+marked-twice-requires c κs = (search needs, (search needs, zeros 128))
 
 pub twice-spec : {M : Type 1} → statement M
 twice-spec =
