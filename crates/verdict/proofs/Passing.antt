@@ -3,7 +3,7 @@
 use mathlib.Core.Path.{_≡_, refl, sym, ap, ap₂, _∙_}
 use mathlib.Core.Bool.{Bool, true, false, cond}
 use mathlib.Core.List.{List, [], _∷_}
-use Prim.Native.Nat.{ℕ, zero, suc, _^_}
+use Prim.Native.Nat.{ℕ, zero, suc, _^_, _<_}
 use native.Mathlib.Nat.{suc-ne-zero}
 use native.Mathlib.Omega.{arith}
 use lib.ListN.{length}
@@ -18,8 +18,10 @@ use Rattle.terms.proofs.Answers.{reduce-told}
 use Rattle.replay.specs.Check.{Task, Claim, checkFault, TaskPassed, Passed}
 use Rattle.replay.proofs.Faults.{check-none}
 use Rattle.pwl.specs.Bytes.{Below}
-use Rattle.pwl.specs.File.{Run, body, PartsFit}
+use Rattle.pwl.specs.File.{Run, front, body, PartsFit}
+use Rattle.pwl.specs.File as file
 use Rattle.pwl.specs.Calls.{taskOf, claimOf}
+use Rattle.pwl.proofs.Writes.{shaped}
 
 module _ (T : Task) (L : Claim) (z : checkFault T L ≡ 0) where
   pub start-none : byRank (setLines (T .n) (T .start)) ≡ 0
@@ -48,3 +50,21 @@ pub fit-passed : (r : Run) → PartsFit (body r) → checkFault (taskOf r) (clai
 unfolding PartsFit body
 fit-passed r (o, (l, (e, (x, (z, (p, (g, (cx, (cz, (cp, _)))))))))) n =
     passed-of (taskOf r) (claimOf r) n (below-fit (r .x) x) (below-fit (r .z) z) (below-fit (r .p) p) (below-fit (r .cx) cx) (below-fit (r .cz) cz) (below-fit (r .cp) cp) refl
+
+-- A run whose numbers fit their bytes, as those of slices of u16 and u64 do, and that the table does not refuse has an image.
+pub slices-fit : (r : Run) → PartsFit (body r) → length (r .order) < 2 ^ 64 → length (r .listed) < 2 ^ 64 → length (r .extra) < 2 ^ 64 → length (r .log) < 2 ^ 64
+    → checkFault (taskOf r) (claimOf r) ≡ 0 → file.Fit r
+unfolding front PartsFit Below
+slices-fit r b lo ll le lg z =
+    let h = shaped r z (fit-passed r b z) in
+    record {
+      front-fits = (
+        (omega arith, tt),
+        (
+          (omega arith, (omega (arith, h .small-n), (omega (arith, h .small-m), tt))),
+          ((omega (arith, lo), (omega (arith, ll), (omega (arith, le), (omega (arith, lg), tt)))), tt),
+        ),
+      );
+      body-fits = b;
+      long = h .long;
+    }

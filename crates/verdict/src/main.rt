@@ -165,7 +165,38 @@ fn take(
     by_answer(o)
 }
 
-// Standard input, as it comes, into the outputs. Its bytes are not kept.
+// One read of standard input into a part; how many bytes it gave, 0 at its end.
+fn read_some(part: &mut [u8]) -> usize
+    ensures { λ k. ⌜ k ≤ length (now (part .entry)) ⌝ }
+{
+    io::count(libc::read(STDIN_FILENO, part), part)
+}
+
+// The same behind what was read before.
+fn read_more(buf: &mut [u8], done: usize) -> usize
+    requires { ⌜ done ≤ length (now buf) ⌝ }
+    ensures { λ k. ⌜ done + k ≤ length (now (buf .entry)) ⌝ }
+{
+    read_some(&mut buf[done..])
+}
+
+// Standard input, as it comes, to its end or until the buffer is full. `io::read_full` has a buffer of its own, for which there is no room.
+fn read_input(buf: &mut [u8]) -> usize
+    ensures { λ r. ⌜ r ≤ length (now (buf .entry)) ⌝ }
+{
+    let end = buf.len();
+    let mut done = 0;
+    while done < end {
+        let k = read_more(buf, done);
+        if k == 0 {
+            return done;
+        }
+        done += k;
+    }
+    done
+}
+
+// Standard input into the outputs. Its bytes are not kept.
 fn take_in(
     units: &mut [u16; UNITS],
     x: &mut [u64; WORDS],
@@ -176,7 +207,7 @@ fn take_in(
     ensures { λ t. ⌜ TakenIn (outputsBefore units x z p claimed) (outputsAfter units x z p claimed) t ⌝ }
 {
     let mut buf = [0u8; MOST + 1];
-    let got = io::read_full(STDIN_FILENO, &mut buf);
+    let got = read_input(&mut buf);
     take(&buf[0..got], units, x, z, p, claimed)
 }
 

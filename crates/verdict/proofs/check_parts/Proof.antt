@@ -1,3 +1,5 @@
+-- The parts that are lent are those of `runIn`, place by place, so that the checker's answer is the one on that run.
+-- What the parts ask of the ends is what this function asks.
 use borrow.Author.Needs.{needs}
 use native.Mathlib.Omega.{arith}
 use Rattle.verdict.specs.Workers.{runIn}
@@ -7,8 +9,6 @@ use Rattle.verdict.proofs.check_parts.Reads as reads
 use Rattle.verdict.proofs.check_parts.Lts as lts
 use Rattle.replay.proofs.check.Reads as check-reads
 
--- The parts that are lent are those of `runIn`, place by place, so that the checker's answer is the one on that run.
--- What the parts ask of the ends is what this function asks.
 returns : tie.Need-returns
 unfolding runIn
 returns c = c .before .before .before .before .before .before .check .ensures .answer

@@ -1,3 +1,5 @@
+-- Every sum on the way is at most what the outputs have room for, so that none wraps.
+-- Words and phase words are the front's, by the contracts of encoding.
 use borrow.Author.Needs.{needs}
 use native.Mathlib.Omega.{arith}
 use mathlib.Core.Path.{_≡_, refl, ap, _∙_}

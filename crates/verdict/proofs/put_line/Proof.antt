@@ -1,3 +1,5 @@
+-- Whatever was taken in: too large is told by the length alone, and else the verdict that is written is the one on it.
+-- Every line has room in 64 bytes.
 use borrow.Author.Needs.{needs}
 use native.Mathlib.Omega.{arith}
 use mathlib.Core.Path.{sym, ap, _∙_}
@@ -9,8 +11,6 @@ use Rattle.verdict.proofs.Lines.{line-large, line-small}
 use Rattle.verdict.proofs.put_line.Statement.{statement}
 use Rattle.verdict.proofs.put_line.Tie as tie
 
--- Whatever was taken in: too large is told by the length alone, and else the verdict that is written is the one on it.
--- Every line has room in 64 bytes.
 returns : tie.Need-returns
 returns c =
     let w = c .before .before .put-plain .ensures in

@@ -1,3 +1,5 @@
+-- One case a verdict: what is written is the text that `textOf` has for it.
+-- Every text has room in 64 bytes, its number with at most 21 digits.
 use borrow.Author.Needs.{needs}
 use native.Mathlib.Omega.{arith}
 use Rattle.verdict.specs.Verdict.{textOf}
@@ -8,8 +10,6 @@ use Rattle.verdict.proofs.put_verdict.Lts as lts
 use Rattle.verdict.proofs.put_numbered.Reads as put-numbered-reads
 use Rattle.verdict.proofs.put_plain.Reads as put-plain-reads
 
--- One case a verdict: what is written is the text that `textOf` has for it.
--- Every text has room in 64 bytes, its number with at most 21 digits.
 returns : tie.Need-returns
 unfolding textOf
 returns c = rw (c .before .before .before .before .before .before .before .v .given .1) (c .before .before .put-numbered .ensures)

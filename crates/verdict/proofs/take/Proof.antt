@@ -1,3 +1,5 @@
+-- The length alone tells what is too large. What is not is read, and the answer kept by its parts (`taken-read`).
+-- Outputs keep their lengths, as they do in `read`.
 use borrow.Author.Needs.{needs}
 use native.Mathlib.Omega.{arith}
 use mathlib.Core.Path.{sym, _∙_}
@@ -9,8 +11,6 @@ use Rattle.verdict.proofs.Parts.{taken-read}
 use Rattle.verdict.proofs.take.Statement.{statement}
 use Rattle.verdict.proofs.take.Tie as tie
 
--- The length alone tells what is too large. What is not is read, and the answer kept by its parts (`taken-read`).
--- Outputs keep their lengths, as they do in `read`.
 returns : tie.Need-returns
 returns c = record { large = sym (lt-ltb most _ (c .before .if1 .taken)); file = λ e. absurd (true≢false e) }
 
