@@ -6,13 +6,10 @@ use mathlib.Core.List.{List, _++_}
 use Prim.Native.Nat.{ℕ, zero, suc, _*_}
 use native.Mathlib.Nat.{suc-ne-zero}
 use lib.ListN.{take}
-use Rattle.encoding.specs.Set.{Mem, count}
 use Rattle.encoding.specs.Refusals.{leftOr}
 use Rattle.encoding.proofs.Faults.{orElse, or-none}
 use Rattle.encoding.proofs.Ranks.{Given}
-use Rattle.reduction.specs.Log.{pairs}
 use Rattle.reduction.specs.Checker as checker
-use Rattle.reduction.proofs.Entries.{BadAt}
 use Rattle.terms.specs.Calls.{Reduces}
 use Rattle.terms.specs.declared.Canonicalized.the-variants.{Done}
 use Rattle.terms.proofs.Finished.{finished}

@@ -11,7 +11,6 @@ use lib.ListN.{length, take, drop, length-replicate}
 use Rattle.encoding.specs.Set.{part}
 use Rattle.encoding.specs.Refusals.{leftOr}
 use Rattle.encoding.specs.Ranks.{byRank}
-use Rattle.encoding.proofs.Faults.{or-none}
 use Rattle.replay.specs.Check.{givenOr, verdictOn}
 use Rattle.replay.specs.declared.Verdict.{Verdict}
 use Rattle.replay.specs.declared.Verdict.the-variants as verdict
@@ -19,7 +18,7 @@ use Rattle.reduction.specs.Checker as checker
 use Rattle.pwl.specs.declared.Front.{Front}
 use Rattle.pwl.specs.declared.Opened.{Opened}
 use Rattle.pwl.specs.declared.Opened.the-variants.{Whole, Refused}
-use Rattle.pwl.specs.File.{Run, run, runBy, runOf, readParts, shapesBy, readRun, frontAt, fileFault}
+use Rattle.pwl.specs.File.{Run, run, runBy, runOf, readParts, shapesBy, readRun, frontAt}
 use Rattle.pwl.specs.Calls.{wholeOr, taskOf, claimOf, runLines, Outputs, filledBy, readFault, Reads}
 use Rattle.pwl.proofs.Kit.{length-append, drop-at, take-at}
 use Rattle.pwl.proofs.Round.{length-nums}

@@ -1,6 +1,6 @@
 -- The outputs have room: the file's length bounds its parts, and the table its rows, so that 14, the last line, never fits and the first line that does is
 -- the file's or the checker's. Where the lists end lies within what was filled. Assumes nothing.
-use mathlib.Core.Path.{_≡_, refl, sym, ap, _∙_, subst}
+use mathlib.Core.Path.{_≡_, refl, sym, ap, _∙_}
 use mathlib.Core.Bool.{Bool, true, false, cond}
 use mathlib.Core.List.{List, _++_}
 use Prim.Native.Nat.{ℕ, zero, suc, _+_, _*_, _≤_}

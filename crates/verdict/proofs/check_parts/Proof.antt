@@ -1,7 +1,6 @@
 -- The parts that are lent are those of `runIn`, place by place, so that the checker's answer is the one on that run.
 -- What the parts ask of the ends is what this function asks.
 use borrow.Author.Needs.{needs}
-use native.Mathlib.Omega.{arith}
 use Rattle.verdict.specs.Workers.{runIn}
 use Rattle.verdict.proofs.check_parts.Statement.{statement}
 use Rattle.verdict.proofs.check_parts.Tie as tie

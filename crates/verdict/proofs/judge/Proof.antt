@@ -1,6 +1,5 @@
 -- What was read had room in the arrays (`roomy-is`), so that where its lists end is within the units and its words are within the rest.
 -- The run that lies in them is the file's (`verdict-is`), and a refusal is the file's too (`refused-is`).
-use borrow.Author.Needs.{needs}
 use native.Mathlib.Omega.{arith}
 use Rattle.verdict.proofs.Parts.{refused-is, roomy-is, verdict-is, short-enough}
 use Rattle.verdict.proofs.judge.Statement.{statement}

@@ -1,7 +1,6 @@
 -- Whatever was taken in: too large is told by the length alone, and else the verdict that is written is the one on it.
 -- Every line has room in 64 bytes.
 use borrow.Author.Needs.{needs}
-use native.Mathlib.Omega.{arith}
 use mathlib.Core.Path.{sym, ap, _∙_}
 use borrow.Author.Tests.{ltb-true}
 use lib.ListN.{length}

@@ -1,5 +1,4 @@
 use borrow.Author.Needs.{needs}
-use native.Mathlib.Omega.{arith}
 use Rattle.verdict.proofs.Lines.{with-number}
 use Rattle.verdict.proofs.put_numbered.Statement.{statement}
 use Rattle.verdict.proofs.put_numbered.Tie as tie

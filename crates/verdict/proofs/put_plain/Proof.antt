@@ -1,5 +1,4 @@
 use borrow.Author.Needs.{needs}
-use native.Mathlib.Omega.{arith}
 use Rattle.verdict.proofs.Lines.{plain}
 use Rattle.verdict.proofs.put_plain.Statement.{statement}
 use Rattle.verdict.proofs.put_plain.Tie as tie

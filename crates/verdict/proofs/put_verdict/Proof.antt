@@ -1,7 +1,6 @@
 -- One case a verdict: what is written is the text that `textOf` has for it.
 -- Every text has room in 64 bytes, its number with at most 21 digits.
 use borrow.Author.Needs.{needs}
-use native.Mathlib.Omega.{arith}
 use Rattle.verdict.specs.Verdict.{textOf}
 use Rattle.verdict.proofs.put_verdict.Statement.{statement}
 use Rattle.verdict.proofs.put_verdict.Tie as tie
