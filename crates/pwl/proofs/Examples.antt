@@ -1,4 +1,5 @@
--- P9 of RULES 11 as a file: the bytes of docs/PWL.md, computed. Assumes nothing.
+-- P9 of RULES 11 as a file: the bytes of docs/PWL.md, computed.
+-- The image of its run is these bytes, and the run is what is read from them. Assumes nothing.
 use mathlib.Core.Path.{_≡_, refl}
 use mathlib.Core.List.{List, [], _∷_}
 use Prim.Native.Nat.{ℕ}

@@ -1,4 +1,5 @@
--- Numbers fetched from bytes one after the other: what was fetched so far stands in front of what was there. Assumes nothing.
+-- Numbers fetched from bytes one after the other: what was fetched so far stands in front of what was there.
+-- Number i of a part is the number at its place, so that the next one goes right behind the last. Assumes nothing.
 use Rattle.pwl.proofs.Kit.{_≡_, refl, sym, ap, _∙_, List, [], _∷_, _++_, append-assoc, ℕ, zero, suc, _+_, _*_, _<_, arith, length, getD, drop, set, drop-drop, drop-cons}
 use lib.Seq.{set-at}
 use Rattle.pwl.specs.Bytes.{num, nums}

@@ -1,4 +1,5 @@
--- What reading leaves in its outputs: parts that lie side by side in the file are one part of the output. Assumes nothing.
+-- What reading leaves in its outputs: parts that lie side by side in the file are one part of the output.
+-- Lengths follow from the front, so that room is told by its numbers alone, and lines are given in turn. Assumes nothing.
 use Rattle.pwl.proofs.Kit.{_≡_, refl, sym, ap, ap₂, _∙_, subst, Bool, true, false, cond, _||_, true≢false, List, [], _∷_, _++_, append-assoc, append-nil, ℕ, zero, suc, _+_, _*_, _-_, _≤_, arith, ltb, ltb-false, length, drop, take, length-append, length-drop, drop-of-length-le, drop-drop, drop-at, take-at}
 use lib.Seq.{take-all}
 use native.Mathlib.Nat.{suc-ne-zero}

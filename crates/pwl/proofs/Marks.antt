@@ -1,11 +1,11 @@
 -- Marks as bits are marks as numbers: a table with 1 for each bit that is set (`spread`) is marked as the bits are, so that what is known of marks that are
 -- numbers (`Marking`, of the lists in memory) serves for bits. Assumes nothing.
-use Rattle.pwl.proofs.Kit.{_≡_, refl, sym, ap, _∙_, Bool, true, false, cond, List, ℕ, _+_, _*_, _/_, _%_, _^_, _<_, _≤_, arith, length, getD, set, length-set, suc}
+use Rattle.pwl.proofs.Kit.{_≡_, sym, ap, _∙_, Bool, true, false, cond, List, ℕ, _*_, _/_, _%_, _^_, _<_, arith, length, getD, set, length-set}
 use native.Mathlib.Decide.{decLt, ℕ-discrete}
 use native.Mathlib.Nat.{suc-ne-zero}
 use lib.ListN.{List·getD-eq-default}
 use lib.Seq.{ext-getD, getD-set-same, getD-set-other}
-use Rattle.encoding.specs.Words.{odd, bitAt, withBit}
+use Rattle.encoding.specs.Words.{odd, bitAt}
 use Rattle.encoding.specs.Set.{list}
 use Rattle.encoding.proofs.BitLaws.{zero-bit}
 use Rattle.encoding.proofs.Parts.{length-list, getD-list}

@@ -1,4 +1,5 @@
--- Numbers of two, four and eight bytes at a place, by the bytes there: the low half, and the high half above it. Assumes nothing.
+-- Numbers of two, four and eight bytes at a place, by the bytes there: the low half, and the high half above it.
+-- A byte is below 256, so that no half reaches into the other. Assumes nothing.
 use Rattle.pwl.proofs.Kit.{_≡_, refl, ap, _∙_, List, ℕ, suc, _+_, _*_, arith, getD, drop, drop-drop}
 use lib.Seq.{getD-drop}
 use Rattle.pwl.specs.Bytes.{num}

@@ -1,4 +1,5 @@
--- What opening a file finds: the front decides 17, 18 and a file that ends inside it, and where it does not, the length decides. Assumes nothing.
+-- What opening a file finds: the front decides 17, 18 and a file that ends inside it, and where it does not, the length decides.
+-- What is left of the length is counted down part by part, so that no sum is made that could wrap. Assumes nothing.
 use Rattle.pwl.proofs.Kit.{_≡_, refl, sym, ap, _∙_, Bool, true, false, cond, not, List, ℕ, zero, suc, _+_, _*_, _<_, _≤_, arith, eqb, ltb, ltb-true, ltb-false, lt-ltb, le-ltb, length, drop}
 use Rattle.encoding.specs.Limits.{wordsOf}
 use Rattle.encoding.specs.Set.{phaseUnits}

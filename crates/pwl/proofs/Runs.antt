@@ -1,4 +1,5 @@
--- The run in a file by its places: each part is the numbers from its place on, so that what the tests find of bytes they find of the run. Assumes nothing.
+-- The run in a file by its places: each part is the numbers from its place on, so that what the tests find of bytes they find of the run. Places are sums of
+-- one front's numbers, so that all parts lie within a file that is as long as its front says. Assumes nothing.
 use Rattle.pwl.proofs.Kit.{_≡_, refl, sym, ap, _∙_, subst, Bool, false, cond, List, [], _∷_, ℕ, _+_, _*_, _%_, _<_, _≤_, arith, lt-ltb, le-ltb, ne-eqb, length, drop}
 use Rattle.encoding.specs.Limits.{maxQubits, maxRows, wordsOf}
 use Rattle.encoding.specs.Words.{odd}

@@ -1,4 +1,5 @@
--- What writing a file leaves: a run that the table passed is as long as its front says, so that the front's length is that of the image. Assumes nothing.
+-- What writing a file leaves: a run that the table passed is as long as its front says, so that the front's length is that of the image.
+-- So 14 of the output is 19 of its length, by the one test of lengths. Assumes nothing.
 use Rattle.pwl.proofs.Kit.{_≡_, refl, sym, ap, _∙_, subst, Bool, true, false, cond, List, [], _∷_, _++_, ℕ, zero, suc, _+_, _*_, _/_, _%_, _≤_, arith, ltb, ltb-true, ltb-false, lt-ltb, le-ltb, length, drop}
 use native.Mathlib.Nat.{suc-ne-zero}
 use borrow.Author.Tests.{eqb-false}

@@ -1,4 +1,5 @@
 -- Every part lies within the file and has room in its output; what the three calls leave is the run (`filling`).
+-- Places are sums of the front's numbers, and the file is as long as they say.
 use borrow.Author.Needs.{needs}
 use native.Mathlib.Omega.{arith}
 use Rattle.pwl.specs.Calls.{outputs}

@@ -1,4 +1,5 @@
 -- No place is past the end of the file, whose length is a number of 64 bits.
+-- Each sum on the way is a part of that length, so that none wraps.
 use borrow.Author.Needs.{needs}
 use native.Mathlib.Omega.{arith}
 use mathlib.Core.Path.{ap}

@@ -1,4 +1,5 @@
 -- 17 to 20 are given at once (`read-refused`); else the file is as long as its front says, and what is left is the run's (`read-done`).
+-- The run's lines come behind the file's, so that its number is the answer where the file has none.
 use borrow.Author.Needs.{needs}
 use mathlib.Core.Path.{sym, ap, _∙_}
 use Rattle.pwl.specs.File.{wholeLen}

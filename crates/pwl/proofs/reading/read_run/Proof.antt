@@ -1,4 +1,5 @@
 -- The checker's number is given at once (`run-refused`), then 14 where an output is too short (`run-short`); else all parts are there (`run-filled`).
+-- Each answer is the first line that fits, since those before it have failed.
 use borrow.Author.Needs.{needs}
 use native.Mathlib.Omega.{arith}
 use Prim.Native.Nat.{_≤_}

@@ -1,4 +1,5 @@
 -- No row below r has a bit at n or above; only the last word of a row can have one (`row-seen`).
+-- Where n is a multiple of 64 there is no such bit.
 use borrow.Author.Needs.{needs}
 use native.Mathlib.Omega.{arith}
 use mathlib.Core.Path.{_≡_, refl, sym, ap, _∙_}

@@ -1,4 +1,5 @@
--- A return for each line, 6, 7 and 15, each after those before it have failed; where 6 has, every number has its mark's place.
+-- A return for each line, 6, 7 and 15, each after those before it have failed.
+-- Where 6 has failed, every number has its mark's place.
 use borrow.Author.Needs.{needs}
 use mathlib.Core.Bool.{true, false}
 use mathlib.Core.Path.{sym, _∙_}

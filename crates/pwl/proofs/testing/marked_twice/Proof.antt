@@ -1,3 +1,5 @@
+-- What is left of the list has no number twice and finds no mark exactly when the whole list has no number twice (`Marking`, of the lists in memory):
+-- the bits, spread out, are the marks of those lists, and a bit that is set is one of these set.
 use borrow.Author.Needs.{needs}
 use native.Mathlib.Omega.{arith}
 use mathlib.Core.Bool.{not}
@@ -17,8 +19,6 @@ use Rattle.encoding.proofs.bit_in.Reads as bit-in-reads
 use Rattle.pwl.proofs.bytes.two.Reads as two-reads
 use Rattle.pwl.proofs.testing.mark.Reads as mark-reads
 
--- What is left of the list has no number twice and finds no mark exactly when the whole list has no number twice (`Marking`, of the lists in memory):
--- the bits, spread out, are the marks of those lists, and a bit that is set is one of these set.
 abbrev Inv-loop : tie.InvT-loop
 Inv-loop s at count marks₀ i₀ marks i = (i ≤ count) × (length marks ≡ length marks₀) × Marking (nums 2 count (drop at s)) i (spread marks)
 

@@ -1,4 +1,5 @@
--- That some number from place i on is too large is that some number of the list is: number i is (`large-hit`), or it can be passed over (`large-more`).
+-- That some number from place i on is too large is that some number of the list is: number i is (`large-hit`), or it can be passed
+-- over (`large-more`).
 use borrow.Author.Needs.{needs}
 use native.Mathlib.Omega.{arith}
 use mathlib.Core.Path.{_≡_, refl, sym, _∙_}

@@ -1,4 +1,5 @@
--- The front's length decides whether there is room (`run-short`, `run-room`); where there is, the image stands at the start (`run-whole`).
+-- The front's length decides whether there is room (`run-short`, `run-room`).
+-- Where there is, the image stands at the start (`run-whole`).
 use borrow.Author.Needs.{needs}
 use mathlib.Core.Path.{refl}
 use Rattle.pwl.specs.File.{run}
