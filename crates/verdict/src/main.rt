@@ -55,7 +55,8 @@ fn check_parts(
     requires { ⌜ (e .order ≤ e .listed) × (e .listed ≤ e .extra) × (e .extra ≤ e .log) × (e .log ≤ length (now units)) ⌝ }
     requires { ⌜ (e .words ≤ length (now x)) × (e .words ≤ length (now z)) × (e .phases ≤ length (now p)) ⌝ }
     requires { ⌜ e .words + e .words + e .phases ≤ length (now claimed) ⌝ }
-    ensures { λ r. ⌜ r ≡ answerOn (byRank (runLines (runIn n m e (outputsBefore units x z p claimed)))) (runIn n m e (outputsBefore units x z p claimed)) ⌝ }
+    ensures { λ r. ⌜ r ≡ answerOn (byRank (runLines (runIn n m e (outputsBefore units x z p claimed))))
+        (runIn n m e (outputsBefore units x z p claimed)) ⌝ }
 {
     let q = e.words;
     let v = e.phases;

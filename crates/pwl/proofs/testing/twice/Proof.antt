@@ -1,5 +1,5 @@
 use borrow.Author.Needs.{needs}
-use Rattle.terms.proofs.Scans.{zeros}
+use Rattle.replay.proofs.Marks.{zeros}
 use Rattle.pwl.proofs.testing.twice.Statement.{statement}
 use Rattle.pwl.proofs.testing.twice.Tie as tie
 use Rattle.pwl.proofs.testing.twice.Reads as reads
