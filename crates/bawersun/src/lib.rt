@@ -1,4 +1,7 @@
 // The door for C: every call of the library, exported under a name that begins with the crate's; thin, each under the contract of the call itself.
+
+#![tactic(auto)]
+
 mod files;
 
 ghost use Rattle.std.specs.Prelude.{◌≡◌, ◌%◌};

@@ -1,4 +1,7 @@
 // One call a line on standard input, one answer a line on standard output; docs/CALLS.md says how they are written.
+
+#![tactic(auto)]
+
 mod conjugate;
 mod elements;
 mod feed;

@@ -1,4 +1,7 @@
 // Sums, differences and products of i64, with the word on whether they fit; the complex products made of them; and a running sum over pairs.
+
+#![tactic(auto)]
+
 ghost use Rattle.std.specs.Prelude.{◌≡◌, true, ◌&&◌, pos, nat_abs, ◌+ℤ◌, ◌-ℤ◌, ◌*ℤ◌};
 ghost use Rattle.std.specs.Int.Signed.{lt_z};
 ghost use Rattle.checked.specs.Range.{gauss, within};

@@ -1,4 +1,7 @@
 // Clifford gates above the row set: one call, which conjugates every row of a set in place. The set is reached through its tests and its leaves alone.
+
+#![tactic(auto)]
+
 ghost use Rattle.std.specs.Prelude.{◌≡◌, ◌≤◌, ◌<◌};
 ghost use Rattle.encoding.specs.Limits.{max_qubits, max_rows};
 ghost use Rattle.encoding.specs.Set.{rows_of, lay};

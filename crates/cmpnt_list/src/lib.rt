@@ -1,4 +1,7 @@
 // The calls over a row set. Each tests first, as the table of refusals says, and then works; what it answers and leaves stands in specs/Calls.antt.
+
+#![tactic(auto)]
+
 ghost use Rattle.std.specs.Prelude.{◌≡◌, ◌+◌, ◌*◌, ◌%◌, ◌≤◌, ◌<◌, length, get_or};
 ghost use Rattle.std.specs.Int.Count.{ones};
 ghost use Rattle.pauli.specs.declared.PauliMatrix.TheVariants.{I};

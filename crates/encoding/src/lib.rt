@@ -1,4 +1,7 @@
 // How Paulis lie in words: the limits, the refusals of row sets and states, and one qubit of a row's two parts.
+
+#![tactic(auto)]
+
 ghost use Rattle.std.specs.Prelude.{◌≡◌, Bool, cond, not, ◌||◌, ◌&&◌, ◌∷◌, [], ℕ, ◌+◌, ◌*◌, ◌/◌, ◌%◌, ◌^◌, ◌≤◌, ◌<◌, eqb, ltb, leb, length, get_or, drop, set};
 ghost use Rattle.pauli.specs.Pauli.{of_bits, has_x, has_z};
 ghost use Rattle.encoding.specs.Limits.{max_qubits, max_rows, max_words, words_of};

@@ -1,4 +1,7 @@
 // The reduction rule done late: a row's products by the pivots of a block are put off and made at once, by a table of products of these.
+
+#![tactic(auto)]
+
 ghost use Rattle.std.specs.Prelude.{◌≡◌, not, ◌||◌, ◌+◌};
 ghost use Rattle.pauli.specs.Row.{mul_row, bit_row};
 ghost use Rattle.encoding.specs.Lent.{lent, before, after};

@@ -1,4 +1,7 @@
 // What the two editions of matrix elements share: the tests of the terms, the block's place among them, and the exponent of a term's action on the ket.
+
+#![tactic(auto)]
+
 ghost use Rattle.std.specs.Prelude.{◌≡◌, suc, ◌^◌, ◌<◌, ◌≤◌, false, length, nat_lt};
 ghost use Rattle.encoding.specs.Ranks.{by_rank};
 ghost use Rattle.mat_elem.specs.Terms.{most_qubits, set_from, falls, lines_to10};

@@ -1,4 +1,7 @@
 // The name that a line starts with, and the call that it is. The calls stand together as their lines have the same fields, and as they lend.
+
+#![tactic(auto)]
+
 ghost use Rattle.std.specs.Prelude.{◌≡◌, cond, ◌≤◌, length, take};
 ghost use Rattle.naming.specs.Names.{same, by_name, call_of, name_end, of_two, of_one, lending as lendingNames, changing as changingNames, reducing as reducingNames, others as otherNames};
 

@@ -1,5 +1,8 @@
 // One bit of a run of words turned: the leaf below the gates, which takes any words. Of a row set, proofs/View.antt says that the bits of a qubit, read
 // and turned, are those of the rows' Paulis.
+
+#![tactic(auto)]
+
 ghost use Rattle.std.specs.Prelude.{◌≡◌, ◌/◌, ◌^◌, ◌<◌};
 ghost use Rattle.encoding.specs.Words.{odd, with_bit};
 ghost use Rattle.encoding.proofs.Odd.{xorᵇ};

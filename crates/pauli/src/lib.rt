@@ -1,7 +1,9 @@
 // The plain types of the code. What they mean stands in specs/, and the laws in proofs/.
 
+#![tactic(auto)]
+
 // One of the four Pauli matrices.
-#[derive(Drop)]
+#[derive(Clone, Copy)]
 pub enum PauliMatrix {
     I,
     X,
@@ -10,13 +12,13 @@ pub enum PauliMatrix {
 }
 
 // A power of i, by its exponent.
-#[derive(Drop)]
+#[derive(Clone, Copy)]
 pub struct ComplexSign(pub u8);
 
 // The number of a row in a set.
-#[derive(Drop)]
+#[derive(Clone, Copy)]
 pub struct RowNumber(pub usize);
 
 // The number of a qubit in a row.
-#[derive(Drop)]
+#[derive(Clone, Copy)]
 pub struct QubitNumber(pub usize);

@@ -1,4 +1,7 @@
 // Products of words and rows, and their actions on basis states. l and r stand for the left and right operands, x and z for the two parts.
+
+#![tactic(auto)]
+
 ghost use Rattle.std.specs.Prelude.{◌≡◌, ◌+◌, ◌*◌, ◌%◌, ◌^◌, ◌<◌, ◌≤◌, min, Bool, true, ◌&&◌, ◌||◌, length, ◌==◌, count_ones, nat_le};
 ghost use Rattle.pauli.specs.Pauli.{phases, act_phase, clashes};
 ghost use Rattle.encoding.specs.Words.{word, bits, unpack};

@@ -1,5 +1,8 @@
 // The log file of docs/PWL.md. What a file holds and which bytes are one stands in specs/File.antt, what the calls answer and leave in
 // specs/Calls.antt.
+
+#![tactic(auto)]
+
 mod bytes;
 mod opening;
 mod reading;

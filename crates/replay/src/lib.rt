@@ -1,4 +1,7 @@
 // The replay checker: it tells anyone whether a claimed result of a reduction is right, from the log that someone made.
+
+#![tactic(auto)]
+
 ghost use Rattle.std.specs.Prelude.{◌≡◌, not, [], ◌∷◌, eqb};
 ghost use Rattle.encoding.specs.Lent.{lent, before, after};
 ghost use Rattle.encoding.specs.Ranks.{by_rank, line};

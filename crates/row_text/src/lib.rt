@@ -1,4 +1,7 @@
 // Rows as text: the text of a row, and a text read into a row. What the calls answer and leave stands in specs/Calls.antt.
+
+#![tactic(auto)]
+
 mod fmt;
 mod parse;
 

@@ -1,4 +1,7 @@
 // The exponent of the product of two rows by a table, two qubits at a time: an engine for chips that have no instruction for counting ones.
+
+#![tactic(auto)]
+
 ghost use Rattle.std.specs.Prelude.{◌≡◌, ◌+◌, ◌*◌, ◌-◌, ◌%◌, ◌<◌, ◌≤◌};
 ghost use Rattle.pauli.specs.Pauli.{phases};
 ghost use Rattle.encoding.specs.Words.{word};

@@ -1,4 +1,7 @@
 // Terms: the product of two rows of a set in place, and the reduction of a set with its log.
+
+#![tactic(auto)]
+
 ghost use Rattle.std.specs.Prelude.{◌≡◌, ◌+◌, ◌≤◌, length};
 ghost use Rattle.encoding.specs.Set.{Sound};
 ghost use Rattle.encoding.specs.Lent.{lent, before, after};

@@ -1,5 +1,8 @@
 // Numbers and lists as text over lent byte slices. A reader takes the bytes and a place and answers a value and the place
 // behind it; a writer puts a text at a place of a lent slice, or answers that it does not fit and leaves all as it was.
+
+#![tactic(auto)]
+
 mod field;
 mod list;
 mod read;

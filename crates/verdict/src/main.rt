@@ -1,4 +1,7 @@
 // The verdict on a log file (docs/PWL.md): one file from standard input, one line to standard output.
+
+#![tactic(auto)]
+
 ghost use Rattle.std.specs.Prelude.{◌≡◌, ◌+◌, ◌*◌, ◌^◌, ◌≤◌, ◌<◌, false, ◌++◌, length};
 ghost use Rattle.text.specs.Numbers.{numeral};
 ghost use Rattle.encoding.specs.Ranks.{by_rank};

@@ -1,4 +1,4 @@
-# [ derive ( Drop ) ] pub enum PauliMatrix { I , X , Y , Z , }
-# [ derive ( Drop ) ] pub struct ComplexSign ( pub u8 ) ;
-# [ derive ( Drop ) ] pub struct RowNumber ( pub usize ) ;
-# [ derive ( Drop ) ] pub struct QubitNumber ( pub usize ) ;
+# [ derive ( Clone , Copy ) ] pub enum PauliMatrix { I , X , Y , Z , }
+# [ derive ( Clone , Copy ) ] pub struct ComplexSign ( pub u8 ) ;
+# [ derive ( Clone , Copy ) ] pub struct RowNumber ( pub usize ) ;
+# [ derive ( Clone , Copy ) ] pub struct QubitNumber ( pub usize ) ;

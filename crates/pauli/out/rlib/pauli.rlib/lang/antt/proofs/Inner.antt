@@ -7,7 +7,7 @@ use Prim.Native.Nat.{ℕ, zero, suc}
 use lib.IntN.{ℤ, neg_ℤ, ◌+ℤ◌, ◌-ℤ◌, ◌*ℤ◌, +ℤ_assoc, neg_ℤ-+ℤ, neg_ℤ-neg_ℤ}
 use lib.ListN.{length}
 use Rattle.pauli.specs.Gauss.{Gauss, ◌⊕◌, ◌⊗◌, conj, g0, g1}
-use Rattle.pauli.specs.Matrix.{sum, sameState, basis}
+use Rattle.pauli.specs.Matrix.{sum, same_state, basis}
 use Rattle.pauli.proofs.IntRing.{add4, neg-mul, mul-neg}
 use Rattle.pauli.proofs.GaussRing.{by_parts, ⊗-assoc, ⊗-⊕}
 use Rattle.pauli.proofs.Products.{sum-ext}
@@ -46,7 +46,7 @@ conj-⊗ u v =
     (neg_ℤ-+ℤ (u.re *ℤ v.im) (u.im *ℤ v.re) ∙ ap₂ (λ (x y : ℤ). x +ℤ y) (sym (mul-neg u.re v.im)) (sym (neg-mul u.im v.re)))
 
 pub conj-basis : (t s : List Bool) → conj (basis t s) ≡ basis t s
-conj-basis t s = go (sameState t s)
+conj-basis t s = go (same_state t s)
   where
     go : (b : Bool) → conj (cond b g1 g0) ≡ cond b g1 g0
     go true = refl

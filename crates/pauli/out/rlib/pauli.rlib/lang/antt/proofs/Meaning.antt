@@ -9,10 +9,10 @@ use native.Mathlib.Omega.{arith}
 use borrow.Author.Tests.{eqb-true, eqb-false, eq-eqb, ne_eqb}
 use lib.ListN.{length, take, replicate, length-replicate}
 use Rattle.pauli.specs.Gauss.{Gauss, ◌⊗◌, minus, g0, ipow}
-use Rattle.pauli.specs.Pauli.{Pauli, I, X, Y, Z, phase, mul, phases, turn, act, actPhase, clashes}
-use Rattle.pauli.specs.Row.{Row, padMul, expo, mulRow, bitRow}
-use Rattle.pauli.specs.Rows.{phaseOf, clashesOf, commute, central, holding, count_of, actOn, actPhaseOn}
-use Rattle.pauli.specs.Matrix.{matrix, times, scaled, Same, Commute, Anticommute, onQubits, matrixOf, rowMatrix, basis, apply}
+use Rattle.pauli.specs.Pauli.{Pauli, I, X, Y, Z, phase, mul, phases, turn, act, act_phase, clashes}
+use Rattle.pauli.specs.Row.{Row, pad_mul, expo, mul_row, bit_row}
+use Rattle.pauli.specs.Rows.{phase_of, clashes_of, commute, central, holding, count_of, act_on, act_phase_on}
+use Rattle.pauli.specs.Matrix.{matrix, times, scaled, Same, Commute, Anticommute, on_qubits, matrix_of, row_matrix, basis, apply}
 use Rattle.pauli.proofs.Bools.{xor_same}
 use Rattle.pauli.proofs.Scan.{every-at, every-all}
 use Rattle.pauli.proofs.GaussRing.{⊗-assoc, g1-⊗, ipow-add, minus_is, minus_minus, ipow-low, ipow-mod, never}
@@ -27,11 +27,11 @@ use Rattle.pauli.proofs.Vectors.{⊗-g0, ⊗-g1, sum-basis, column-is, column-he
 
 -- matrix(a) matrix(b) is i to the phase(a, b) times matrix(ab)
 pub matrix-product : (n : ℕ) (a b : Row)
-    → Same n (times n (matrixOf n a) (matrixOf n b)) (scaled (ipow (phaseOf n a b)) (matrixOf n (mulRow n a b)))
-unfolding mulRow
+    → Same n (times n (matrix_of n a) (matrix_of n b)) (scaled (ipow (phase_of n a b)) (matrix_of n (mul_row n a b)))
+unfolding mul_row
 matrix-product n a b r c hr hc =
-    let A = onQubits n a.ps in
-    let B = onQubits n b.ps in
+    let A = on_qubits n a.ps in
+    let B = on_qubits n b.ps in
     let la : length A ≡ n = length-on n a.ps in
     let lb : length B ≡ n = length-on n b.ps in
     ap (λ (k : ℕ). times k (matrix A) (matrix B) r c) (sym la)
@@ -39,16 +39,16 @@ matrix-product n a b r c hr hc =
     ∙ ap₂ (λ (x : Gauss) (l : List Pauli). x ⊗ matrix l r c) (ap ipow (expo-on n a b) ∙ ipow-low (expo n a b)) (sym (on-mul n a.ps b.ps))
 
 -- with the rows' own phases: the product of rows is the product of their matrices
-pub row-product : (n : ℕ) (a b : Row) → Same n (times n (rowMatrix n a) (rowMatrix n b)) (rowMatrix n (mulRow n a b))
-unfolding mulRow
+pub row-product : (n : ℕ) (a b : Row) → Same n (times n (row_matrix n a) (row_matrix n b)) (row_matrix n (mul_row n a b))
+unfolding mul_row
 row-product n a b r c hr hc =
-    let M = matrixOf n (mulRow n a b) r c in
-    half n (ipow a.p) (ipow b.p) (matrixOf n a r) (λ s. matrixOf n b s c)
+    let M = matrix_of n (mul_row n a b) r c in
+    half n (ipow a.p) (ipow b.p) (matrix_of n a r) (λ s. matrix_of n b s c)
     ∙ ap₂ (λ (x y : Gauss). x ⊗ y) (sym (ipow-add a.p b.p)) (matrix-product n a b r c hr hc)
-    ∙ sym (⊗-assoc (ipow (a.p + b.p)) (ipow (phaseOf n a b)) M)
+    ∙ sym (⊗-assoc (ipow (a.p + b.p)) (ipow (phase_of n a b)) M)
     ∙ ap (λ (x : Gauss). x ⊗ M)
-    (sym (ipow-add (a.p + b.p) (phaseOf n a b))
-    ∙ ipow-mod (a.p + b.p + phaseOf n a b) ((a.p + b.p + expo n a b) % 4) (omega arith))
+    (sym (ipow-add (a.p + b.p) (phase_of n a b))
+    ∙ ipow-mod (a.p + b.p + phase_of n a b) ((a.p + b.p + expo n a b) % 4) (omega arith))
 
 -- ---- a row by itself: its bits are cleared, its exponent is doubled
 
@@ -62,16 +62,16 @@ phases-self : (l : List Pauli) → phases l l ≡ 0
 phases-self [] = refl
 phases-self (p ∷ l) = ap₂ ◌+◌ (phase-self p) (phases-self l)
 
-pub square-bits : (n : ℕ) (a : Row) (c : ℕ) → bitRow n (mulRow n a a) c ≡ false
-square-bits n a c = bit-mul n a a c ∙ xor_same (bitRow n a c)
+pub square-bits : (n : ℕ) (a : Row) (c : ℕ) → bit_row n (mul_row n a a) c ≡ false
+square-bits n a c = bit-mul n a a c ∙ xor_same (bit_row n a c)
 
-pub square-phase : (n : ℕ) (a : Row) → (mulRow n a a).p ≡ (2 * a.p) % 4
-unfolding mulRow
+pub square-phase : (n : ℕ) (a : Row) → (mul_row n a a).p ≡ (2 * a.p) % 4
+unfolding mul_row
 square-phase n a = omega (arith, phases-self (take n a.ps))
 
 -- the bare rule, phase(a, b) with no phase of the rows', gives a product's phase exactly where the rows' own add up to 0 mod 4
-pub bare-exactly : (n : ℕ) (a b : Row) → ((mulRow n a b).p ≡ phaseOf n a b) ↔ ((a.p + b.p) % 4 ≡ 0)
-unfolding mulRow
+pub bare-exactly : (n : ℕ) (a b : Row) → ((mul_row n a b).p ≡ phase_of n a b) ↔ ((a.p + b.p) % 4 ≡ 0)
+unfolding mul_row
 bare-exactly n a b = (λ e. omega arith, λ e. omega arith)
 
 low : (x y : ℕ) → (x % 4 + y % 4) % 4 ≡ (x + y) % 4
@@ -79,77 +79,77 @@ low x y = omega arith
 
 -- phase(a, b) + phase(ab, c) is phase(b, c) + phase(a, bc) mod 4
 pub phase-associative : (n : ℕ) (a b c : Row)
-    → (phaseOf n a b + phaseOf n (mulRow n a b) c) % 4 ≡ (phaseOf n b c + phaseOf n a (mulRow n b c)) % 4
-unfolding mulRow
+    → (phase_of n a b + phase_of n (mul_row n a b) c) % 4 ≡ (phase_of n b c + phase_of n a (mul_row n b c)) % 4
+unfolding mul_row
 phase-associative n a b c =
     let A = take n a.ps in
     let B = take n b.ps in
     let C = take n c.ps in
-    low (phases A B) (phases (take n (padMul a.ps b.ps)) C)
+    low (phases A B) (phases (take n (pad_mul a.ps b.ps)) C)
     ∙ ap (λ (l : List Pauli). (phases A B + phases l C) % 4) (pad-take n a.ps b.ps)
     ∙ phases-pad A B C
     ∙ ap (λ (l : List Pauli). (phases B C + phases A l) % 4) (sym (pad-take n b.ps c.ps))
-    ∙ sym (low (phases B C) (phases A (take n (padMul b.ps c.ps))))
+    ∙ sym (low (phases B C) (phases A (take n (pad_mul b.ps c.ps))))
 
 -- ---- actions
 
 module _ (n : ℕ) (a : Row) (s : List Bool) (ha : length a.ps ≡ n) (hs : length s ≡ n) where
   -- the entry in the column of a basis state
-  entry-is : (r : List Bool) → length r ≡ n → matrixOf n a r s ≡ ipow (actPhaseOn n a s) ⊗ basis (actOn n a s) r
+  entry-is : (r : List Bool) → length r ≡ n → matrix_of n a r s ≡ ipow (act_phase_on n a s) ⊗ basis (act_on n a s) r
   entry-is r hr =
       let A = a.ps in
       let t : A ≡ take n A = sym (take_same n A ha) in
       ap (λ (l : List Pauli). matrix l r s) (on_same n A ha)
       ∙ column-is A r s (hr ∙ sym ha) (hs ∙ sym ha)
-      ∙ ap (λ (l : List Pauli). ipow (actPhase l s) ⊗ basis (act l s) r) t
-      ∙ ap (λ (x : Gauss). x ⊗ basis (actOn n a s) r) (ipow-low (actPhase (take n A) s))
+      ∙ ap (λ (l : List Pauli). ipow (act_phase l s) ⊗ basis (act l s) r) t
+      ∙ ap (λ (x : Gauss). x ⊗ basis (act_on n a s) r) (ipow-low (act_phase (take n A) s))
 
   -- the matrix of a row applied to the vector of a basis state is i to the exponent times the vector of the new state
-  pub action : (r : List Bool) → length r ≡ n → apply n (matrixOf n a) (basis s) r ≡ ipow (actPhaseOn n a s) ⊗ basis (actOn n a s) r
-  action r hr = sum-basis n (matrixOf n a r) s hs ∙ entry-is r hr
+  pub action : (r : List Bool) → length r ≡ n → apply n (matrix_of n a) (basis s) r ≡ ipow (act_phase_on n a s) ⊗ basis (act_on n a s) r
+  action r hr = sum-basis n (matrix_of n a r) s hs ∙ entry-is r hr
 
   -- and with the row's own phase
-  pub row-action : (r : List Bool) → length r ≡ n → apply n (rowMatrix n a) (basis s) r ≡ ipow (a.p + actPhaseOn n a s) ⊗ basis (actOn n a s) r
+  pub row-action : (r : List Bool) → length r ≡ n → apply n (row_matrix n a) (basis s) r ≡ ipow (a.p + act_phase_on n a s) ⊗ basis (act_on n a s) r
   row-action r hr =
-      sum-basis n (rowMatrix n a r) s hs
+      sum-basis n (row_matrix n a r) s hs
       ∙ ap (λ (x : Gauss). ipow a.p ⊗ x) (entry-is r hr)
-      ∙ sym (⊗-assoc (ipow a.p) (ipow (actPhaseOn n a s)) (basis (actOn n a s) r))
-      ∙ ap (λ (x : Gauss). x ⊗ basis (actOn n a s) r) (sym (ipow-add a.p (actPhaseOn n a s)))
+      ∙ sym (⊗-assoc (ipow a.p) (ipow (act_phase_on n a s)) (basis (act_on n a s) r))
+      ∙ ap (λ (x : Gauss). x ⊗ basis (act_on n a s) r) (sym (ipow-add a.p (act_phase_on n a s)))
 
   -- that is: at the new state i to the exponent, at every other state zero
-  pub action-there : apply n (matrixOf n a) (basis s) (actOn n a s) ≡ ipow (actPhaseOn n a s)
+  pub action-there : apply n (matrix_of n a) (basis s) (act_on n a s) ≡ ipow (act_phase_on n a s)
   action-there =
       let lt : length (take n a.ps) ≡ n = ap length (take_same n a.ps ha) ∙ ha in
-      action (actOn n a s) (length-each turn (take n a.ps) s (hs ∙ sym lt) ∙ lt)
-      ∙ ap (λ (x : Gauss). ipow (actPhaseOn n a s) ⊗ x) (basis-here (actOn n a s))
-      ∙ ⊗-g1 (ipow (actPhaseOn n a s))
+      action (act_on n a s) (length-each turn (take n a.ps) s (hs ∙ sym lt) ∙ lt)
+      ∙ ap (λ (x : Gauss). ipow (act_phase_on n a s) ⊗ x) (basis-here (act_on n a s))
+      ∙ ⊗-g1 (ipow (act_phase_on n a s))
 
-  pub action-elsewhere : (r : List Bool) → length r ≡ n → (r ≡ actOn n a s → ⊥) → apply n (matrixOf n a) (basis s) r ≡ g0
+  pub action-elsewhere : (r : List Bool) → length r ≡ n → (r ≡ act_on n a s → ⊥) → apply n (matrix_of n a) (basis s) r ≡ g0
   action-elsewhere r hr h =
-      action r hr ∙ ap (λ (x : Gauss). ipow (actPhaseOn n a s) ⊗ x) (basis-elsewhere (actOn n a s) r h) ∙ ⊗-g0 (ipow (actPhaseOn n a s))
+      action r hr ∙ ap (λ (x : Gauss). ipow (act_phase_on n a s) ⊗ x) (basis-elsewhere (act_on n a s) r h) ∙ ⊗-g0 (ipow (act_phase_on n a s))
 
 -- b and then a gives the state of ab, and an exponent of phase(a, b) plus that of ab, mod 4
 module _ (n : ℕ) (a b : Row) (s : List Bool) (ha : length a.ps ≡ n) (hb : length b.ps ≡ n) where
   same-long : length (take n b.ps) ≡ length (take n a.ps)
   same-long = ap length (take_same n b.ps hb) ∙ hb ∙ sym (ap length (take_same n a.ps ha) ∙ ha)
 
-  first-n : take n (padMul a.ps b.ps) ≡ mul (take n a.ps) (take n b.ps)
+  first-n : take n (pad_mul a.ps b.ps) ≡ mul (take n a.ps) (take n b.ps)
   first-n = pad-take n a.ps b.ps ∙ pad-mul (take n a.ps) (take n b.ps) same-long
 
-  pub act-then-state : actOn n a (actOn n b s) ≡ actOn n (mulRow n a b) s
-  unfolding mulRow
+  pub act-then-state : act_on n a (act_on n b s) ≡ act_on n (mul_row n a b) s
+  unfolding mul_row
   act-then-state = act-mul (take n a.ps) (take n b.ps) s same-long ∙ ap (λ (l : List Pauli). act l s) (sym first-n)
 
   pub act-then-phase : length s ≡ n
-      → (actPhaseOn n b s + actPhaseOn n a (actOn n b s)) % 4 ≡ (phaseOf n a b + actPhaseOn n (mulRow n a b) s) % 4
-  unfolding mulRow
+      → (act_phase_on n b s + act_phase_on n a (act_on n b s)) % 4 ≡ (phase_of n a b + act_phase_on n (mul_row n a b) s) % 4
+  unfolding mul_row
   act-then-phase hs =
       let A = take n a.ps in
       let B = take n b.ps in
-      low (actPhase B s) (actPhase A (act B s))
+      low (act_phase B s) (act_phase A (act B s))
       ∙ act-phase A B s same-long (hs ∙ sym (ap length (take_same n a.ps ha) ∙ ha))
-      ∙ ap (λ (l : List Pauli). (phases A B + actPhase l s) % 4) (sym first-n)
-      ∙ sym (low (phases A B) (actPhase (take n (padMul a.ps b.ps)) s))
+      ∙ ap (λ (l : List Pauli). (phases A B + act_phase l s) % 4) (sym first-n)
+      ∙ sym (low (phases A B) (act_phase (take n (pad_mul a.ps b.ps)) s))
 
 -- ---- commutation
 
@@ -160,16 +160,16 @@ module _ (n : ℕ) (a b : Row) where
 
   -- each of them brings i to the 2 to the product in the other order
   other-order : (r c : List Bool) → length r ≡ n → length c ≡ n
-      → times n (rowMatrix n b) (rowMatrix n a) r c ≡ ipow (2 * differ) ⊗ times n (rowMatrix n a) (rowMatrix n b) r c
-  unfolding mulRow differ
+      → times n (row_matrix n b) (row_matrix n a) r c ≡ ipow (2 * differ) ⊗ times n (row_matrix n a) (row_matrix n b) r c
+  unfolding mul_row differ
   other-order r c hr hc =
       let x = a.p + b.p + expo n a b in
       let y = b.p + a.p + expo n b a in
-      let ab = matrixOf n (mulRow n a b) r c in
+      let ab = matrix_of n (mul_row n a b) r c in
       row-product n b a r c hr hc
       ∙ ap₂ (λ (u : Gauss) (l : List Pauli). u ⊗ matrix l r c)
       (sym (ipow-low y) ∙ ipow-mod y (2 * differ + x) (omega (arith, phases-swap (take n a.ps) (take n b.ps))) ∙ ipow-add (2 * differ) x)
-      (on-mul n b.ps a.ps ∙ mul_comm (onQubits n b.ps) (onQubits n a.ps) ∙ sym (on-mul n a.ps b.ps))
+      (on-mul n b.ps a.ps ∙ mul_comm (on_qubits n b.ps) (on_qubits n a.ps) ∙ sym (on-mul n a.ps b.ps))
       ∙ ⊗-assoc (ipow (2 * differ)) (ipow x) ab
       ∙ ap (λ (u : Gauss). ipow (2 * differ) ⊗ (u ⊗ ab)) (ipow-low x)
       ∙ ap (λ (u : Gauss). ipow (2 * differ) ⊗ u) (sym (row-product n a b r c hr hc))
@@ -186,63 +186,63 @@ module _ (n : ℕ) (a b : Row) where
       two d h = omega arith
 
   -- rows that commute have matrices that commute, and the others have matrices that anticommute
-  pub commuting : commute n a b ≡ true → Commute n (rowMatrix n a) (rowMatrix n b)
+  pub commuting : commute n a b ≡ true → Commute n (row_matrix n a) (row_matrix n b)
   commuting e r c hr hc =
       sym
       (other-order r c hr hc
-      ∙ ap (λ (u : Gauss). u ⊗ times n (rowMatrix n a) (rowMatrix n b) r c) (ipow-mod (2 * differ) 0 (even e))
-      ∙ g1-⊗ (times n (rowMatrix n a) (rowMatrix n b) r c))
+      ∙ ap (λ (u : Gauss). u ⊗ times n (row_matrix n a) (row_matrix n b) r c) (ipow-mod (2 * differ) 0 (even e))
+      ∙ g1-⊗ (times n (row_matrix n a) (row_matrix n b) r c))
 
-  pub anticommuting : commute n a b ≡ false → Anticommute n (rowMatrix n a) (rowMatrix n b)
+  pub anticommuting : commute n a b ≡ false → Anticommute n (row_matrix n a) (row_matrix n b)
   anticommuting e r c hr hc =
       sym
       (ap minus
       (other-order r c hr hc
-      ∙ ap (λ (u : Gauss). u ⊗ times n (rowMatrix n a) (rowMatrix n b) r c) (ipow-mod (2 * differ) 2 (odd e))
-      ∙ sym (minus_is (times n (rowMatrix n a) (rowMatrix n b) r c)))
-      ∙ minus_minus (times n (rowMatrix n a) (rowMatrix n b) r c))
+      ∙ ap (λ (u : Gauss). u ⊗ times n (row_matrix n a) (row_matrix n b) r c) (ipow-mod (2 * differ) 2 (odd e))
+      ∙ sym (minus_is (times n (row_matrix n a) (row_matrix n b) r c)))
+      ∙ minus_minus (times n (row_matrix n a) (row_matrix n b) r c))
 
   -- no two rows do both: the product has an entry that is a power of i
-  both : Commute n (rowMatrix n a) (rowMatrix n b) → Anticommute n (rowMatrix n a) (rowMatrix n b) → ⊥
+  both : Commute n (row_matrix n a) (row_matrix n b) → Anticommute n (row_matrix n a) (row_matrix n b) → ⊥
   both f g =
-      let m = onQubits n (mulRow n a b).ps in
+      let m = on_qubits n (mul_row n a b).ps in
       let c = replicate n false in
       let r = act m c in
-      let k = (mulRow n a b).p + actPhase m c in
-      let hm : length m ≡ n = length-on n (mulRow n a b).ps in
+      let k = (mul_row n a b).p + act_phase m c in
+      let hm : length m ≡ n = length-on n (mul_row n a b).ps in
       let hc : length c ≡ n = length-replicate n false in
       let hr : length r ≡ n = length-each turn m c (hc ∙ sym hm) ∙ hm in
-      let u = times n (rowMatrix n a) (rowMatrix n b) r c in
-      let is : u ≡ ipow k = row-product n a b r c hr hc ∙ ap (λ (x : Gauss). ipow (mulRow n a b).p ⊗ x) (column-here m c (hc ∙ sym hm)) ∙ sym (ipow-add (mulRow n a b).p (actPhase m c)) in
+      let u = times n (row_matrix n a) (row_matrix n b) r c in
+      let is : u ≡ ipow k = row-product n a b r c hr hc ∙ ap (λ (x : Gauss). ipow (mul_row n a b).p ⊗ x) (column-here m c (hc ∙ sym hm)) ∙ sym (ipow-add (mul_row n a b).p (act_phase m c)) in
       never k (sym is ∙ g r c hr hc ∙ ap minus (sym (f r c hr hc)) ∙ minus_is u ∙ ap (λ (x : Gauss). ipow 2 ⊗ x) is ∙ sym (ipow-add 2 k) ∙ ap ipow (two-more k))
     where
       two-more : (k : ℕ) → 2 + k ≡ suc (suc k)
       two-more k = omega arith
 
   -- so the matrices of two rows commute exactly when an even number of qubits hold differing non-identity Paulis, and otherwise they anticommute
-  pub commute-iff : Commute n (rowMatrix n a) (rowMatrix n b) ↔ (commute n a b ≡ true)
+  pub commute-iff : Commute n (row_matrix n a) (row_matrix n b) ↔ (commute n a b ≡ true)
   commute-iff = (λ f. pick (commute n a b) refl f, commuting)
     where
-      pick : (t : Bool) → commute n a b ≡ t → Commute n (rowMatrix n a) (rowMatrix n b) → commute n a b ≡ true
+      pick : (t : Bool) → commute n a b ≡ t → Commute n (row_matrix n a) (row_matrix n b) → commute n a b ≡ true
       pick true e f = e
       pick false e f = absurd (both f (anticommuting e))
 
-  pub anticommute-iff : Anticommute n (rowMatrix n a) (rowMatrix n b) ↔ (commute n a b ≡ false)
+  pub anticommute-iff : Anticommute n (row_matrix n a) (row_matrix n b) ↔ (commute n a b ≡ false)
   anticommute-iff = (λ f. pick (commute n a b) refl f, anticommuting)
     where
-      pick : (t : Bool) → commute n a b ≡ t → Anticommute n (rowMatrix n a) (rowMatrix n b) → commute n a b ≡ false
+      pick : (t : Bool) → commute n a b ≡ t → Anticommute n (row_matrix n a) (row_matrix n b) → commute n a b ≡ false
       pick true e f = absurd (both (commuting e) f)
       pick false e f = e
 
   -- THE NUMBER OF CLASHES is even exactly when the matrices commute, and odd exactly when they anticommute
-  pub clashes-even : Commute n (rowMatrix n a) (rowMatrix n b) ↔ (clashesOf n a b % 2 ≡ 0)
+  pub clashes-even : Commute n (row_matrix n a) (row_matrix n b) ↔ (clashes_of n a b % 2 ≡ 0)
   unfolding commute
-  clashes-even = (λ f. eqb-true (clashesOf n a b % 2) 0 (commute-iff.0 f), λ e. commuting (eq-eqb (clashesOf n a b % 2) 0 e))
+  clashes-even = (λ f. eqb-true (clashes_of n a b % 2) 0 (commute-iff.0 f), λ e. commuting (eq-eqb (clashes_of n a b % 2) 0 e))
 
-  pub clashes-odd : Anticommute n (rowMatrix n a) (rowMatrix n b) ↔ (clashesOf n a b % 2 ≡ 1)
+  pub clashes-odd : Anticommute n (row_matrix n a) (row_matrix n b) ↔ (clashes_of n a b % 2 ≡ 1)
   unfolding commute
   clashes-odd =
-      (λ f. left (clashesOf n a b) (eqb-false (clashesOf n a b % 2) 0 (anticommute-iff.0 f)), λ e. anticommuting (ne_eqb (clashesOf n a b % 2) 0 (other e)))
+      (λ f. left (clashes_of n a b) (eqb-false (clashes_of n a b % 2) 0 (anticommute-iff.0 f)), λ e. anticommuting (ne_eqb (clashes_of n a b % 2) 0 (other e)))
     where
       left : (d : ℕ) → (d % 2 ≡ 0 → ⊥) → d % 2 ≡ 1
       left d h = omega arith
@@ -254,7 +254,7 @@ module _ (n : ℕ) (a b : Row) where
 
 -- a row is central exactly when its matrix commutes with the matrix of every row
 pub central-iff : (n m : ℕ) (σ : ℕ → Row) (r : ℕ)
-    → (central n m σ r ≡ true) ↔ ((k : ℕ) → k < m → Commute n (rowMatrix n (σ r)) (rowMatrix n (σ k)))
+    → (central n m σ r ≡ true) ↔ ((k : ℕ) → k < m → Commute n (row_matrix n (σ r)) (row_matrix n (σ k)))
 unfolding central
 central-iff n m σ r = (
   λ e k h. commuting n (σ r) (σ k) (every-at (λ k. commute n (σ r) (σ k)) m e k h),
@@ -264,7 +264,7 @@ central-iff n m σ r = (
 -- ---- counts
 
 -- the count of each Pauli is the number of qubits that hold it
-pub count-is : (n : ℕ) (p : Pauli) (r : Row) → count_of n p r ≡ holding p (onQubits n r.ps)
+pub count-is : (n : ℕ) (p : Pauli) (r : Row) → count_of n p r ≡ holding p (on_qubits n r.ps)
 unfolding count_of
 count-is n I r = omega (arith, I-on n r.ps)
 count-is n X r = sym (holding-on X refl n r.ps)

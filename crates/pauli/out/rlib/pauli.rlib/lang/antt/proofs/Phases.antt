@@ -8,8 +8,8 @@ use native.Mathlib.Nat.{suc_inj}
 use native.Mathlib.Omega.{arith}
 use lib.Dec.{eqb, eqb→eq}
 use lib.ListN.{length}
-use Rattle.pauli.specs.Pauli.{Pauli, ◌·◌, phase, mul, phases, turn, turnPhase, act, actPhase, clash, clashes}
-use Rattle.pauli.specs.Row.{eqP}
+use Rattle.pauli.specs.Pauli.{Pauli, ◌·◌, phase, mul, phases, turn, turn_phase, act, act_phase, clash, clashes}
+use Rattle.pauli.specs.Row.{eq_p}
 use Rattle.pauli.proofs.Bools.{same_bit}
 use Rattle.pauli.proofs.Every.{paulis, bools, at₂, at₃, same-pauli}
 
@@ -36,16 +36,16 @@ phases-assoc (p ∷ ps) (q ∷ qs) (r ∷ rs) h k = omega (arith, three p q r, p
 -- ---- b and then a on a state is ab, with the exponent phase(a, b) more
 
 on-rule : Pauli → Pauli → Bool → Bool
-on-rule p q b = eqb ((turnPhase q b + turnPhase p (turn q b)) % 4) ((phase p q + turnPhase (p · q) b) % 4)
+on-rule p q b = eqb ((turn_phase q b + turn_phase p (turn q b)) % 4) ((phase p q + turn_phase (p · q) b) % 4)
 
-on : (p q : Pauli) (b : Bool) → (turnPhase q b + turnPhase p (turn q b)) % 4 ≡ (phase p q + turnPhase (p · q) b) % 4
+on : (p q : Pauli) (b : Bool) → (turn_phase q b + turn_phase p (turn q b)) % 4 ≡ (phase p q + turn_phase (p · q) b) % 4
 unfolding on-rule
 on p q b =
-    eqb→eq ((turnPhase q b + turnPhase p (turn q b)) % 4) ((phase p q + turnPhase (p · q) b) % 4)
+    eqb→eq ((turn_phase q b + turn_phase p (turn q b)) % 4) ((phase p q + turn_phase (p · q) b) % 4)
     (at₃ paulis paulis bools on-rule tt p q b)
 
 pub act-phase : (ps qs : List Pauli) (s : List Bool) → length qs ≡ length ps → length s ≡ length ps
-    → (actPhase qs s + actPhase ps (act qs s)) % 4 ≡ (phases ps qs + actPhase (mul ps qs) s) % 4
+    → (act_phase qs s + act_phase ps (act qs s)) % 4 ≡ (phases ps qs + act_phase (mul ps qs) s) % 4
 act-phase [] [] s h k = refl
 act-phase [] (q ∷ qs) s h k = absurd (omega arith)
 act-phase (p ∷ ps) [] s h k = absurd (omega arith)
@@ -78,7 +78,7 @@ phases-swap (p ∷ ps) [] = refl
 phases-swap (p ∷ ps) (q ∷ qs) = omega (arith, swap p q, phases-swap ps qs)
 
 comm : (p q : Pauli) → p · q ≡ q · p
-comm p q = same-pauli (p · q) (q · p) (at₂ paulis paulis (λ p q. eqP (p · q) (q · p)) tt p q)
+comm p q = same-pauli (p · q) (q · p) (at₂ paulis paulis (λ p q. eq_p (p · q) (q · p)) tt p q)
 
 pub mul_comm : (ps qs : List Pauli) → mul ps qs ≡ mul qs ps
 mul_comm [] [] = refl

@@ -8,22 +8,22 @@ use native.Mathlib.Nat.{suc_inj}
 use native.Mathlib.Omega.{arith}
 use lib.ListN.{length}
 use Rattle.pauli.specs.Gauss.{Gauss, ◌⊕◌, ◌⊗◌, ipow}
-use Rattle.pauli.specs.Matrix.{pauliEntry, matrix, sum, times}
+use Rattle.pauli.specs.Matrix.{pauli_entry, matrix, sum, times}
 use Rattle.pauli.specs.Pauli.{Pauli, ◌·◌, phase, mul, phases}
 use Rattle.pauli.proofs.GaussRing.{⊕-⊗, ⊗-⊕, ⊗-four, ipow-add}
-use Rattle.pauli.proofs.Every.{paulis, bools, at₄, eqG, eqG→eq}
+use Rattle.pauli.proofs.Every.{paulis, bools, at₄, eq_g, eq_g→eq}
 
 -- ---- one qubit
 
 one_product : Pauli → Pauli → Bool → Bool → Bool
-one_product p q a b = eqG (pauliEntry p a false ⊗ pauliEntry q false b ⊕ pauliEntry p a true ⊗ pauliEntry q true b) (ipow (phase p q) ⊗ pauliEntry (p · q) a b)
+one_product p q a b = eq_g (pauli_entry p a false ⊗ pauli_entry q false b ⊕ pauli_entry p a true ⊗ pauli_entry q true b) (ipow (phase p q) ⊗ pauli_entry (p · q) a b)
 
 -- the sixteen products, against the 2x2 matrices
 pub one-qubit-products : (p q : Pauli) (a b : Bool)
-    → pauliEntry p a false ⊗ pauliEntry q false b ⊕ pauliEntry p a true ⊗ pauliEntry q true b ≡ ipow (phase p q) ⊗ pauliEntry (p · q) a b
+    → pauli_entry p a false ⊗ pauli_entry q false b ⊕ pauli_entry p a true ⊗ pauli_entry q true b ≡ ipow (phase p q) ⊗ pauli_entry (p · q) a b
 unfolding one_product
 one-qubit-products p q a b =
-    eqG→eq (pauliEntry p a false ⊗ pauliEntry q false b ⊕ pauliEntry p a true ⊗ pauliEntry q true b) (ipow (phase p q) ⊗ pauliEntry (p · q) a b)
+    eq_g→eq (pauli_entry p a false ⊗ pauli_entry q false b ⊕ pauli_entry p a true ⊗ pauli_entry q true b) (ipow (phase p q) ⊗ pauli_entry (p · q) a b)
     (at₄ paulis paulis bools bools one_product tt p q a b)
 
 -- ---- sums
@@ -55,9 +55,9 @@ product (p ∷ ps) (q ∷ qs) (a ∷ r) (b ∷ c) h₁ h₂ h₃ =
     let n = length ps in
     let rest = times n (matrix ps) (matrix qs) r c in
     ap₂ (λ (x y : Gauss). x ⊕ y)
-    (half n (pauliEntry p a false) (pauliEntry q false b) (matrix ps r) (λ s. matrix qs s c))
-    (half n (pauliEntry p a true) (pauliEntry q true b) (matrix ps r) (λ s. matrix qs s c))
-    ∙ sym (⊕-⊗ (pauliEntry p a false ⊗ pauliEntry q false b) (pauliEntry p a true ⊗ pauliEntry q true b) rest)
+    (half n (pauli_entry p a false) (pauli_entry q false b) (matrix ps r) (λ s. matrix qs s c))
+    (half n (pauli_entry p a true) (pauli_entry q true b) (matrix ps r) (λ s. matrix qs s c))
+    ∙ sym (⊕-⊗ (pauli_entry p a false ⊗ pauli_entry q false b) (pauli_entry p a true ⊗ pauli_entry q true b) rest)
     ∙ ap₂ (λ (x y : Gauss). x ⊗ y) (one-qubit-products p q a b) (product ps qs r c (suc_inj h₁) (suc_inj h₂) (suc_inj h₃))
-    ∙ ⊗-four (ipow (phase p q)) (pauliEntry (p · q) a b) (ipow (phases ps qs)) (matrix (mul ps qs) r c)
-    ∙ ap (λ (x : Gauss). x ⊗ (pauliEntry (p · q) a b ⊗ matrix (mul ps qs) r c)) (sym (ipow-add (phase p q) (phases ps qs)))
+    ∙ ⊗-four (ipow (phase p q)) (pauli_entry (p · q) a b) (ipow (phases ps qs)) (matrix (mul ps qs) r c)
+    ∙ ap (λ (x : Gauss). x ⊗ (pauli_entry (p · q) a b ⊗ matrix (mul ps qs) r c)) (sym (ipow-add (phase p q) (phases ps qs)))

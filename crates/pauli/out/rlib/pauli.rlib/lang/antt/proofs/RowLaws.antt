@@ -10,9 +10,9 @@ use native.Mathlib.Omega.{arith}
 use lib.Dec.{ltb}
 use lib.ListN.{length, get_or, take}
 use borrow.Author.Tests.{lt-ltb, le-ltb}
-use Rattle.pauli.specs.Pauli.{Pauli, I, ◌·◌, phase, phases, of_bits, hasX, hasZ, mul}
-use Rattle.pauli.specs.Matrix.{onQubits}
-use Rattle.pauli.specs.Row.{Row, eqP, padMul, expo, mulRow, bit_of, bitRow}
+use Rattle.pauli.specs.Pauli.{Pauli, I, ◌·◌, phase, phases, of_bits, has_x, has_z, mul}
+use Rattle.pauli.specs.Matrix.{on_qubits}
+use Rattle.pauli.specs.Row.{Row, eq_p, pad_mul, expo, mul_row, bit_of, bit_row}
 use Rattle.pauli.proofs.Bools.{xor_assoc}
 pub use Rattle.pauli.proofs.Every.{both_of}
 use Rattle.pauli.proofs.Every.{bools, at₄, same-pauli}
@@ -26,55 +26,55 @@ use Rattle.pauli.proofs.Phases.{phases-assoc}
 of-mul : (a b c d : Bool) → of_bits a b · of_bits c d ≡ of_bits (xor a c) (xor b d)
 unfolding xor
 of-mul a b c d =
-    same-pauli (of_bits a b · of_bits c d) (of_bits (xor a c) (xor b d)) (at₄ bools bools bools bools (λ a b c d. eqP (of_bits a b · of_bits c d) (of_bits (xor a c) (xor b d))) tt a b c d)
+    same-pauli (of_bits a b · of_bits c d) (of_bits (xor a c) (xor b d)) (at₄ bools bools bools bools (λ a b c d. eq_p (of_bits a b · of_bits c d) (of_bits (xor a c) (xor b d))) tt a b c d)
 
-pub hasX-of : (a b : Bool) → hasX (of_bits a b) ≡ a
-hasX-of false false = refl
-hasX-of false true = refl
-hasX-of true false = refl
-hasX-of true true = refl
+pub has_x-of : (a b : Bool) → has_x (of_bits a b) ≡ a
+has_x-of false false = refl
+has_x-of false true = refl
+has_x-of true false = refl
+has_x-of true true = refl
 
-pub hasZ-of : (a b : Bool) → hasZ (of_bits a b) ≡ b
-hasZ-of false false = refl
-hasZ-of false true = refl
-hasZ-of true false = refl
-hasZ-of true true = refl
+pub has_z-of : (a b : Bool) → has_z (of_bits a b) ≡ b
+has_z-of false false = refl
+has_z-of false true = refl
+has_z-of true false = refl
+has_z-of true true = refl
 
-mul-bits : (p q : Pauli) → p · q ≡ of_bits (xor (hasX p) (hasX q)) (xor (hasZ p) (hasZ q))
-mul-bits p q = ap₂ ◌·◌ (sym (both_of p)) (sym (both_of q)) ∙ of-mul (hasX p) (hasZ p) (hasX q) (hasZ q)
+mul-bits : (p q : Pauli) → p · q ≡ of_bits (xor (has_x p) (has_x q)) (xor (has_z p) (has_z q))
+mul-bits p q = ap₂ ◌·◌ (sym (both_of p)) (sym (both_of q)) ∙ of-mul (has_x p) (has_z p) (has_x q) (has_z q)
 
-pub x-mul : (p q : Pauli) → hasX (p · q) ≡ xor (hasX p) (hasX q)
-x-mul p q = ap hasX (mul-bits p q) ∙ hasX-of (xor (hasX p) (hasX q)) (xor (hasZ p) (hasZ q))
+pub x-mul : (p q : Pauli) → has_x (p · q) ≡ xor (has_x p) (has_x q)
+x-mul p q = ap has_x (mul-bits p q) ∙ has_x-of (xor (has_x p) (has_x q)) (xor (has_z p) (has_z q))
 
-pub z-mul : (p q : Pauli) → hasZ (p · q) ≡ xor (hasZ p) (hasZ q)
-z-mul p q = ap hasZ (mul-bits p q) ∙ hasZ-of (xor (hasX p) (hasX q)) (xor (hasZ p) (hasZ q))
+pub z-mul : (p q : Pauli) → has_z (p · q) ≡ xor (has_z p) (has_z q)
+z-mul p q = ap has_z (mul-bits p q) ∙ has_z-of (xor (has_x p) (has_x q)) (xor (has_z p) (has_z q))
 
 pub one-assoc : (p q r : Pauli) → (p · q) · r ≡ p · (q · r)
 one-assoc p q r =
     mul-bits (p · q) r
     ∙ ap₂ of_bits
-    (ap (λ (b : Bool). xor b (hasX r)) (x-mul p q) ∙ xor_assoc (hasX p) (hasX q) (hasX r) ∙ ap (λ (b : Bool). xor (hasX p) b) (sym (x-mul q r)))
-    (ap (λ (b : Bool). xor b (hasZ r)) (z-mul p q) ∙ xor_assoc (hasZ p) (hasZ q) (hasZ r) ∙ ap (λ (b : Bool). xor (hasZ p) b) (sym (z-mul q r)))
+    (ap (λ (b : Bool). xor b (has_x r)) (x-mul p q) ∙ xor_assoc (has_x p) (has_x q) (has_x r) ∙ ap (λ (b : Bool). xor (has_x p) b) (sym (x-mul q r)))
+    (ap (λ (b : Bool). xor b (has_z r)) (z-mul p q) ∙ xor_assoc (has_z p) (has_z q) (has_z r) ∙ ap (λ (b : Bool). xor (has_z p) b) (sym (z-mul q r)))
     ∙ sym (mul-bits p (q · r))
 
 -- ---- the product of lists
 
-pub pad-at : (a b : List Pauli) (k : ℕ) → get_or (padMul a b) k I ≡ get_or a k I · get_or b k I
-unfolding padMul
+pub pad-at : (a b : List Pauli) (k : ℕ) → get_or (pad_mul a b) k I ≡ get_or a k I · get_or b k I
+unfolding pad_mul
 pad-at [] b k = refl
 pad-at (x ∷ a) [] k = sym (mul-I (get_or (x ∷ a) k I))
 pad-at (x ∷ a) (y ∷ b) zero = refl
 pad-at (x ∷ a) (y ∷ b) (suc k) = pad-at a b k
 
-pub pad-assoc : (a b c : List Pauli) → padMul (padMul a b) c ≡ padMul a (padMul b c)
-unfolding padMul
+pub pad-assoc : (a b c : List Pauli) → pad_mul (pad_mul a b) c ≡ pad_mul a (pad_mul b c)
+unfolding pad_mul
 pad-assoc [] b c = refl
 pad-assoc (x ∷ a) [] c = refl
 pad-assoc (x ∷ a) (y ∷ b) [] = refl
 pad-assoc (x ∷ a) (y ∷ b) (z ∷ c) = ap₂ (λ (p : Pauli) (l : List Pauli). p ∷ l) (one-assoc x y z) (pad-assoc a b c)
 
-pub pad-take : (n : ℕ) (a b : List Pauli) → take n (padMul a b) ≡ padMul (take n a) (take n b)
-unfolding padMul
+pub pad-take : (n : ℕ) (a b : List Pauli) → take n (pad_mul a b) ≡ pad_mul (take n a) (take n b)
+unfolding pad_mul
 pad-take zero a b = refl
 pad-take (suc n) [] b = refl
 pad-take (suc n) (x ∷ a) [] = refl
@@ -82,32 +82,32 @@ pad-take (suc n) (x ∷ a) (y ∷ b) = ap (λ (l : List Pauli). x · y ∷ l) (p
 
 -- ---- exponents
 
-pub phases-pad : (a b c : List Pauli) → (phases a b + phases (padMul a b) c) % 4 ≡ (phases b c + phases a (padMul b c)) % 4
-unfolding padMul
+pub phases-pad : (a b c : List Pauli) → (phases a b + phases (pad_mul a b) c) % 4 ≡ (phases b c + phases a (pad_mul b c)) % 4
+unfolding pad_mul
 phases-pad [] b c = omega arith
 phases-pad (x ∷ a) [] c = refl
 phases-pad (x ∷ a) (y ∷ b) [] = omega arith
 phases-pad (x ∷ a) (y ∷ b) (z ∷ c) = omega (arith, phases-assoc (x ∷ []) (y ∷ []) (z ∷ []) refl refl, phases-pad a b c)
 
 -- it is the sum over the n qubits
-pub expo-on : (n : ℕ) (a b : Row) → phases (onQubits n a.ps) (onQubits n b.ps) ≡ expo n a b
+pub expo-on : (n : ℕ) (a b : Row) → phases (on_qubits n a.ps) (on_qubits n b.ps) ≡ expo n a b
 expo-on n a b = total-on phase (λ q. refl) phase-I n a.ps b.ps
 
 -- ---- columns
 
-pub x-bit : (n : ℕ) (ps : List Pauli) (q : ℕ) → q < n → bit_of n ps q ≡ hasX (get_or ps q I)
+pub x-bit : (n : ℕ) (ps : List Pauli) (q : ℕ) → q < n → bit_of n ps q ≡ has_x (get_or ps q I)
 unfolding bit_of
-x-bit n ps q h = ap (λ b. cond b (hasX (get_or ps q I)) (hasZ (get_or ps (q - n) I))) (lt-ltb q n h)
+x-bit n ps q h = ap (λ b. cond b (has_x (get_or ps q I)) (has_z (get_or ps (q - n) I))) (lt-ltb q n h)
 
-pub z-bit : (n : ℕ) (ps : List Pauli) (c : ℕ) → n ≤ c → bit_of n ps c ≡ hasZ (get_or ps (c - n) I)
+pub z-bit : (n : ℕ) (ps : List Pauli) (c : ℕ) → n ≤ c → bit_of n ps c ≡ has_z (get_or ps (c - n) I)
 unfolding bit_of
-z-bit n ps c h = ap (λ b. cond b (hasX (get_or ps c I)) (hasZ (get_or ps (c - n) I))) (le-ltb c n h)
+z-bit n ps c h = ap (λ b. cond b (has_x (get_or ps c I)) (has_z (get_or ps (c - n) I))) (le-ltb c n h)
 
 -- a qubit is given by its two columns
 pub by_bits : (n : ℕ) (ps : List Pauli) (q : ℕ) → q < n → get_or ps q I ≡ of_bits (bit_of n ps q) (bit_of n ps (n + q))
 by_bits n ps q h =
     let e : n + q - n ≡ q = omega arith in
-    sym (both_of (get_or ps q I)) ∙ sym (ap₂ of_bits (x-bit n ps q h) (z-bit n ps (n + q) (omega arith) ∙ ap (λ k. hasZ (get_or ps k I)) e))
+    sym (both_of (get_or ps q I)) ∙ sym (ap₂ of_bits (x-bit n ps q h) (z-bit n ps (n + q) (omega arith) ∙ ap (λ k. has_z (get_or ps k I)) e))
 
 pub same_bits : (n : ℕ) (a b : List Pauli) → ((c : ℕ) → c < n + n → bit_of n a c ≡ bit_of n b c) → (k : ℕ) → k < n → get_or a k I ≡ get_or b k I
 same_bits n a b f k h = by_bits n a k h ∙ ap₂ of_bits (f k (omega arith)) (f (n + k) (omega arith)) ∙ sym (by_bits n b k h)
@@ -117,22 +117,22 @@ pub bit-same : (n : ℕ) (a b : List Pauli) → ((k : ℕ) → k < n → get_or 
 bit-same n a b f c h = go (dec_lt c n)
   where
     go : Dec (c < n) → bit_of n a c ≡ bit_of n b c
-    go (yes l) = x-bit n a c l ∙ ap hasX (f c l) ∙ sym (x-bit n b c l)
-    go (no l) = z-bit n a c (omega arith) ∙ ap hasZ (f (c - n) (omega arith)) ∙ sym (z-bit n b c (omega arith))
+    go (yes l) = x-bit n a c l ∙ ap has_x (f c l) ∙ sym (x-bit n b c l)
+    go (no l) = z-bit n a c (omega arith) ∙ ap has_z (f (c - n) (omega arith)) ∙ sym (z-bit n b c (omega arith))
 
 -- ---- the laws
 
 pub row-eq : {a b : List Pauli} {p q : ℕ} → a ≡ b → p ≡ q → ◌≡◌ {A = Row} (record { ps = a; p = p }) (record { ps = b; p = q })
 row-eq e f = λ i. record { ps = e i; p = f i }
 
-pub bit-mul : (n : ℕ) (a b : Row) (c : ℕ) → bitRow n (mulRow n a b) c ≡ xor (bitRow n a c) (bitRow n b c)
-unfolding bit_of mulRow
+pub bit-mul : (n : ℕ) (a b : Row) (c : ℕ) → bit_row n (mul_row n a b) c ≡ xor (bit_row n a c) (bit_row n b c)
+unfolding bit_of mul_row
 bit-mul n a b c = go (ltb c n)
   where
-    go : (t : Bool) → cond t (hasX (get_or (padMul a.ps b.ps) c I)) (hasZ (get_or (padMul a.ps b.ps) (c - n) I))
-        ≡ xor (cond t (hasX (get_or a.ps c I)) (hasZ (get_or a.ps (c - n) I))) (cond t (hasX (get_or b.ps c I)) (hasZ (get_or b.ps (c - n) I)))
-    go true = ap hasX (pad-at a.ps b.ps c) ∙ x-mul (get_or a.ps c I) (get_or b.ps c I)
-    go false = ap hasZ (pad-at a.ps b.ps (c - n)) ∙ z-mul (get_or a.ps (c - n) I) (get_or b.ps (c - n) I)
+    go : (t : Bool) → cond t (has_x (get_or (pad_mul a.ps b.ps) c I)) (has_z (get_or (pad_mul a.ps b.ps) (c - n) I))
+        ≡ xor (cond t (has_x (get_or a.ps c I)) (has_z (get_or a.ps (c - n) I))) (cond t (has_x (get_or b.ps c I)) (has_z (get_or b.ps (c - n) I)))
+    go true = ap has_x (pad-at a.ps b.ps c) ∙ x-mul (get_or a.ps c I) (get_or b.ps c I)
+    go false = ap has_z (pad-at a.ps b.ps (c - n)) ∙ z-mul (get_or a.ps (c - n) I) (get_or b.ps (c - n) I)
 
 mod4-left : (x y : ℕ) → (x % 4 + y) % 4 ≡ (x + y) % 4
 mod4-left x y = omega arith
@@ -158,17 +158,17 @@ regroup a b c u v s t e =
     all' : a + b + c + (s + t) ≡ b + c + s + (a + t)
     all' = omega arith
 
-pub mul_assoc : (n : ℕ) (a b c : Row) → mulRow n (mulRow n a b) c ≡ mulRow n a (mulRow n b c)
-unfolding mulRow
+pub mul_assoc : (n : ℕ) (a b c : Row) → mul_row n (mul_row n a b) c ≡ mul_row n a (mul_row n b c)
+unfolding mul_row
 mul_assoc n a b c =
     let A = take n a.ps in
     let B = take n b.ps in
     let C = take n c.ps in
-    let e : (phases A B + phases (take n (padMul a.ps b.ps)) C) % 4 ≡ (phases B C + phases A (take n (padMul b.ps c.ps))) % 4
+    let e : (phases A B + phases (take n (pad_mul a.ps b.ps)) C) % 4 ≡ (phases B C + phases A (take n (pad_mul b.ps c.ps))) % 4
     = ap (λ l. (phases A B + phases l C) % 4) (pad-take n a.ps b.ps) ∙ phases-pad A B C ∙ ap (λ l. (phases B C + phases A l) % 4) (sym (pad-take n b.ps c.ps)) in
     row-eq (pad-assoc a.ps b.ps c.ps) (regroup a.p b.p c.p _ _ _ _ e)
 
-pub expo-bits : (n : ℕ) (a a' b b' : Row) → ((c : ℕ) → c < n + n → bitRow n a c ≡ bitRow n a' c) → ((c : ℕ) → c < n + n → bitRow n b c ≡ bitRow n b' c) → expo n a b ≡ expo n a' b'
+pub expo-bits : (n : ℕ) (a a' b b' : Row) → ((c : ℕ) → c < n + n → bit_row n a c ≡ bit_row n a' c) → ((c : ℕ) → c < n + n → bit_row n b c ≡ bit_row n b' c) → expo n a b ≡ expo n a' b'
 expo-bits n a a' b b' f g =
     sym (expo-on n a b)
     ∙ ap₂ phases (on-given n a.ps a'.ps (same_bits n a.ps a'.ps f)) (on-given n b.ps b'.ps (same_bits n b.ps b'.ps g))
@@ -178,20 +178,20 @@ pub no_bits : (n c : ℕ) → bit_of n [] c ≡ false
 unfolding bit_of
 no_bits n c = go (ltb c n)
   where
-    go : (t : Bool) → cond t (hasX I) (hasZ I) ≡ false
+    go : (t : Bool) → cond t (has_x I) (has_z I) ≡ false
     go true = refl
     go false = refl
 
 -- the exponent is 0 where the right row has no bit set
-pub expo-none : (n : ℕ) (a b : Row) → ((c : ℕ) → c < n + n → bitRow n b c ≡ false) → expo n a b ≡ 0
+pub expo-none : (n : ℕ) (a b : Row) → ((c : ℕ) → c < n + n → bit_row n b c ≡ false) → expo n a b ≡ 0
 expo-none n a b e =
     sym (expo-on n a b)
-    ∙ ap (phases (onQubits n a.ps)) (on-given n b.ps [] (same_bits n b.ps [] (λ c h. e c h ∙ sym (no_bits n c))))
+    ∙ ap (phases (on_qubits n a.ps)) (on-given n b.ps [] (same_bits n b.ps [] (λ c h. e c h ∙ sym (no_bits n c))))
     ∙ on-right phase (λ q. refl) phase-I n a.ps
 
 -- on lists of the same length the padded product is the product
-pub pad-mul : (a b : List Pauli) → length b ≡ length a → padMul a b ≡ mul a b
-unfolding padMul
+pub pad-mul : (a b : List Pauli) → length b ≡ length a → pad_mul a b ≡ mul a b
+unfolding pad_mul
 pad-mul [] [] h = refl
 pad-mul [] (q ∷ b) h = absurd (omega arith)
 pad-mul (p ∷ a) [] h = absurd (omega arith)

@@ -8,29 +8,29 @@ use native.Mathlib.Omega.{arith}
 use borrow.Author.Count.{below_more}
 use lib.Dec.{T, eqb, eqb→eq, leb, leb→le}
 use lib.ListN.{get_or, take}
-use Rattle.pauli.specs.Pauli.{Pauli, I, hasX, hasZ, clash, clashes}
-use Rattle.pauli.specs.Row.{Row, eqP, sameQubits}
-use Rattle.pauli.specs.Rows.{clashesOf, commute}
+use Rattle.pauli.specs.Pauli.{Pauli, I, has_x, has_z, clash, clashes}
+use Rattle.pauli.specs.Row.{Row, eq_p, same_qubits}
+use Rattle.pauli.specs.Rows.{clashes_of, commute}
 use Rattle.pauli.proofs.Bools.{and_left, and_right, and_both, beq_same}
 use Rattle.pauli.proofs.Every.{at_p, paulis, at₂, same-pauli}
 
-eqP→ : (p q : Pauli) → eqP p q ≡ true → p ≡ q
-eqP→ p q e = same-pauli p q (subst T (sym e) tt)
+eq_p→ : (p q : Pauli) → eq_p p q ≡ true → p ≡ q
+eq_p→ p q e = same-pauli p q (subst T (sym e) tt)
 
-→eqP : (p q : Pauli) → p ≡ q → eqP p q ≡ true
-→eqP p q e = ap (eqP p) (sym e) ∙ and_both (beq_same (hasX p)) (beq_same (hasZ p))
+→eq_p : (p q : Pauli) → p ≡ q → eq_p p q ≡ true
+→eq_p p q e = ap (eq_p p) (sym e) ∙ and_both (beq_same (has_x p)) (beq_same (has_z p))
 
-pub qubits→ : (n : ℕ) (a b : List Pauli) → sameQubits n a b ≡ true → (k : ℕ) → k < n → get_or a k I ≡ get_or b k I
-unfolding sameQubits
+pub qubits→ : (n : ℕ) (a b : List Pauli) → same_qubits n a b ≡ true → (k : ℕ) → k < n → get_or a k I ≡ get_or b k I
+unfolding same_qubits
 qubits→ zero a b e k h = absurd (omega arith)
 qubits→ (suc n) a b e k h =
-    below_more (λ (j : ℕ). get_or a j I ≡ get_or b j I) n (qubits→ n a b (and_left (sameQubits n a b) _ e))
-    (eqP→ (get_or a n I) (get_or b n I) (and_right (sameQubits n a b) _ e)) k (omega arith)
+    below_more (λ (j : ℕ). get_or a j I ≡ get_or b j I) n (qubits→ n a b (and_left (same_qubits n a b) _ e))
+    (eq_p→ (get_or a n I) (get_or b n I) (and_right (same_qubits n a b) _ e)) k (omega arith)
 
-pub →qubits : (n : ℕ) (a b : List Pauli) → ((k : ℕ) → k < n → get_or a k I ≡ get_or b k I) → sameQubits n a b ≡ true
-unfolding sameQubits
+pub →qubits : (n : ℕ) (a b : List Pauli) → ((k : ℕ) → k < n → get_or a k I ≡ get_or b k I) → same_qubits n a b ≡ true
+unfolding same_qubits
 →qubits zero a b f = refl
-→qubits (suc n) a b f = and_both (→qubits n a b (λ k h. f k (omega arith))) (→eqP (get_or a n I) (get_or b n I) (f n (omega arith)))
+→qubits (suc n) a b f = and_both (→qubits n a b (λ k h. f k (omega arith))) (→eq_p (get_or a n I) (get_or b n I) (f n (omega arith)))
 
 -- ---- clashes: at most one a qubit, and none of a row with itself
 
@@ -50,7 +50,7 @@ clashes-self : (a : List Pauli) → clashes a a ≡ 0
 clashes-self [] = refl
 clashes-self (p ∷ a) = ap₂ ◌+◌ (clash-self p) (clashes-self a)
 
-pub row-with-itself : (n : ℕ) (a : Row) → clashesOf n a a ≡ 0
+pub row-with-itself : (n : ℕ) (a : Row) → clashes_of n a a ≡ 0
 row-with-itself n a = clashes-self (take n a.ps)
 
 -- ---- two rows commute in either order

@@ -10,7 +10,7 @@ use native.Mathlib.Omega.{arith}
 use borrow.Author.Count.{below_more}
 use lib.ListN.{length, get_or, drop, drop_of_length-le}
 use lib.Seq.{drop-cons}
-use Rattle.pauli.specs.Lists.{some, someBelow, everyBelow}
+use Rattle.pauli.specs.Lists.{some, some_below, every_below}
 use Rattle.pauli.proofs.Bools.{and_left, and_right, none_of, not_so, is-so}
 
 -- ---- some element of a list
@@ -51,66 +51,66 @@ module _ {A : Type 0} (f : A → Bool) (d : A) where
 -- ---- some number below m
 
 module _ (f : ℕ → Bool) where
-  pub any-more : (r : ℕ) → someBelow r f ≡ false → f r ≡ false → someBelow (r + 1) f ≡ false
-  unfolding someBelow
+  pub any-more : (r : ℕ) → some_below r f ≡ false → f r ≡ false → some_below (r + 1) f ≡ false
+  unfolding some_below
   any-more r e h = rw (add-one r, e, h)
 
-  pub any_none : (m r : ℕ) → someBelow m f ≡ false → r < m → f r ≡ false
-  unfolding someBelow
+  pub any_none : (m r : ℕ) → some_below m f ≡ false → r < m → f r ≡ false
+  unfolding some_below
   any_none zero r e h = absurd (not-suc-le-zero h)
   any_none (suc m) r e h =
-      let n = none_of (someBelow m f) (f m) e in
+      let n = none_of (some_below m f) (f m) e in
       below_more (λ (k : ℕ). f k ≡ false) m (λ k l. any_none m k n.0 l) n.1 r (omega arith)
 
-  pub any-hit : (m r : ℕ) → r < m → f r ≡ true → someBelow m f ≡ true
-  any-hit m r h e = is-so (someBelow m f) (λ q. false≢true (sym (any_none m r q h) ∙ e))
+  pub any-hit : (m r : ℕ) → r < m → f r ≡ true → some_below m f ≡ true
+  any-hit m r h e = is-so (some_below m f) (λ q. false≢true (sym (any_none m r q h) ∙ e))
 
-  pub any-never : (m : ℕ) → ((r : ℕ) → r < m → f r ≡ false) → someBelow m f ≡ false
-  unfolding someBelow
+  pub any-never : (m : ℕ) → ((r : ℕ) → r < m → f r ≡ false) → some_below m f ≡ false
+  unfolding some_below
   any-never zero h = refl
   any-never (suc m) h = ap₂ ◌||◌ (any-never m (λ k l. h k (omega arith))) (h m (omega arith))
 
 -- the same test
-pub any_same : (f g : ℕ → Bool) (m : ℕ) → ((k : ℕ) → k < m → f k ≡ g k) → someBelow m f ≡ someBelow m g
-unfolding someBelow
+pub any_same : (f g : ℕ → Bool) (m : ℕ) → ((k : ℕ) → k < m → f k ≡ g k) → some_below m f ≡ some_below m g
+unfolding some_below
 any_same f g zero h = refl
 any_same f g (suc m) h = ap₂ ◌||◌ (any_same f g m (λ k l. h k (omega arith))) (h m (omega arith))
 
 -- a test that stays as it was from a on
-past : (f : ℕ → Bool) (a d : ℕ) → ((k : ℕ) → a ≤ k → k < suc (d + a) → f k ≡ f a) → someBelow (suc (d + a)) f ≡ someBelow (suc a) f
-unfolding someBelow
+past : (f : ℕ → Bool) (a d : ℕ) → ((k : ℕ) → a ≤ k → k < suc (d + a) → f k ≡ f a) → some_below (suc (d + a)) f ≡ some_below (suc a) f
+unfolding some_below
 past f a zero h = rw zero-add
 past f a (suc d) h =
     rw suc-add
     (ap₂ ◌||◌ (past f a d (λ k l u. h k l (omega (arith, suc-add d a)))) (h (suc (d + a)) (omega arith) (omega (arith, suc-add d a)))
-    ∙ or_assoc (someBelow a f) (f a) (f a) ∙ ap (λ (b : Bool). someBelow a f || b) (or_self (f a)))
+    ∙ or_assoc (some_below a f) (f a) (f a) ∙ ap (λ (b : Bool). some_below a f || b) (or_self (f a)))
 
-pub any-past : (f : ℕ → Bool) (a m : ℕ) → a ≤ m → ((k : ℕ) → a ≤ k → k < suc m → f k ≡ f a) → someBelow (suc m) f ≡ someBelow (suc a) f
+pub any-past : (f : ℕ → Bool) (a m : ℕ) → a ≤ m → ((k : ℕ) → a ≤ k → k < suc m → f k ≡ f a) → some_below (suc m) f ≡ some_below (suc a) f
 any-past f a m l h =
     let e : (m - a) + a ≡ m = omega arith in
-    ap (λ (k : ℕ). someBelow (suc k) f) (sym e) ∙ past f a (m - a) (λ k i u. h k i (omega arith))
+    ap (λ (k : ℕ). some_below (suc k) f) (sym e) ∙ past f a (m - a) (λ k i u. h k i (omega arith))
 
 -- ---- every number below m
 
 module _ (f : ℕ → Bool) where
-  pub every-at : (m : ℕ) → everyBelow m f ≡ true → (k : ℕ) → k < m → f k ≡ true
-  unfolding everyBelow
+  pub every-at : (m : ℕ) → every_below m f ≡ true → (k : ℕ) → k < m → f k ≡ true
+  unfolding every_below
   every-at zero e k h = absurd (not-suc-le-zero h)
   every-at (suc m) e k h =
-      below_more (λ (j : ℕ). f j ≡ true) m (every-at m (and_left (everyBelow m f) (f m) e)) (and_right (everyBelow m f) (f m) e) k (omega arith)
+      below_more (λ (j : ℕ). f j ≡ true) m (every-at m (and_left (every_below m f) (f m) e)) (and_right (every_below m f) (f m) e) k (omega arith)
 
-  pub every-all : (m : ℕ) → ((k : ℕ) → k < m → f k ≡ true) → everyBelow m f ≡ true
-  unfolding everyBelow
+  pub every-all : (m : ℕ) → ((k : ℕ) → k < m → f k ≡ true) → every_below m f ≡ true
+  unfolding every_below
   every-all zero h = refl
   every-all (suc m) h = ap₂ ◌&&◌ (every-all m (λ k l. h k (omega arith))) (h m (omega arith))
 
-  pub every-none : everyBelow 0 f ≡ true
-  unfolding everyBelow
+  pub every-none : every_below 0 f ≡ true
+  unfolding every_below
   every-none = refl
 
-  pub every_more : (k : ℕ) → everyBelow k f ≡ true → f k ≡ true → everyBelow (k + 1) f ≡ true
-  unfolding everyBelow
-  every_more k e g = ap (λ (j : ℕ). everyBelow j f) (add-one k) ∙ ap₂ ◌&&◌ e g
+  pub every_more : (k : ℕ) → every_below k f ≡ true → f k ≡ true → every_below (k + 1) f ≡ true
+  unfolding every_below
+  every_more k e g = ap (λ (j : ℕ). every_below j f) (add-one k) ∙ ap₂ ◌&&◌ e g
 
-  pub every-not : (m k : ℕ) → k < m → f k ≡ false → everyBelow m f ≡ false
-  every-not m k h e = not_so (everyBelow m f) (λ q. false≢true (sym e ∙ every-at m q k h))
+  pub every-not : (m k : ℕ) → k < m → f k ≡ false → every_below m f ≡ false
+  every-not m k h e = not_so (every_below m f) (λ q. false≢true (sym e ∙ every-at m q k h))

@@ -9,12 +9,12 @@ use native.Mathlib.Omega.{arith}
 use lib.IntN.{+ℤ_idl, +ℤ_idr}
 use lib.ListN.{length}
 use Rattle.pauli.specs.Gauss.{Gauss, ◌⊕◌, ◌⊗◌, g0, g1, ipow}
-use Rattle.pauli.specs.Pauli.{Pauli, turn, turnPhase, act, actPhase}
-use Rattle.pauli.specs.Matrix.{pauliEntry, matrix, sum, sameState, basis}
+use Rattle.pauli.specs.Pauli.{Pauli, turn, turn_phase, act, act_phase}
+use Rattle.pauli.specs.Matrix.{pauli_entry, matrix, sum, same_state, basis}
 use Rattle.pauli.proofs.GaussRing.{by_parts, ⊗-comm, ⊗-four, g1-⊗, g0-⊗, ipow-add}
 use Rattle.pauli.proofs.Lists.{length-each}
 use Rattle.pauli.proofs.Products.{sum-ext}
-use Rattle.pauli.proofs.Every.{paulis, bools, at₃, eqG, eqG→eq}
+use Rattle.pauli.proofs.Every.{paulis, bools, at₃, eq_g, eq_g→eq}
 
 pub ⊗-g0 : (u : Gauss) → u ⊗ g0 ≡ g0
 ⊗-g0 u = ⊗-comm u g0 ∙ g0-⊗ u
@@ -30,12 +30,12 @@ g0-⊕ u = by_parts (+ℤ_idl u.re) (+ℤ_idl u.im)
 
 -- ---- the state of a basis vector
 
-pub same_refl : (s : List Bool) → sameState s s ≡ true
+pub same_refl : (s : List Bool) → same_state s s ≡ true
 same_refl [] = refl
 same_refl (false ∷ s) = same_refl s
 same_refl (true ∷ s) = same_refl s
 
-pub same-eq : (s r : List Bool) → sameState s r ≡ true → s ≡ r
+pub same-eq : (s r : List Bool) → same_state s r ≡ true → s ≡ r
 same-eq [] [] e = refl
 same-eq [] (b ∷ r) e = absurd (false≢true e)
 same-eq (a ∷ s) [] e = absurd (false≢true e)
@@ -48,9 +48,9 @@ pub basis-here : (s : List Bool) → basis s s ≡ g1
 basis-here s = ap (λ (b : Bool). cond b g1 g0) (same_refl s)
 
 pub basis-elsewhere : (s r : List Bool) → (r ≡ s → ⊥) → basis s r ≡ g0
-basis-elsewhere s r h = go (sameState s r) refl
+basis-elsewhere s r h = go (same_state s r) refl
   where
-    go : (b : Bool) → sameState s r ≡ b → cond b g1 g0 ≡ g0
+    go : (b : Bool) → same_state s r ≡ b → cond b g1 g0 ≡ g0
     go true e = absurd (h (sym (same-eq s r e)))
     go false e = refl
 
@@ -75,32 +75,32 @@ sum-basis (suc n) f (true ∷ s) h =
 -- ---- the column of a list of Paulis
 
 one-rule : Pauli → Bool → Bool → Bool
-one-rule p a b = eqG (pauliEntry p a b) (ipow (turnPhase p b) ⊗ cond (beq (turn p b) a) g1 g0)
+one-rule p a b = eq_g (pauli_entry p a b) (ipow (turn_phase p b) ⊗ cond (beq (turn p b) a) g1 g0)
 
-one : (p : Pauli) (a b : Bool) → pauliEntry p a b ≡ ipow (turnPhase p b) ⊗ cond (beq (turn p b) a) g1 g0
+one : (p : Pauli) (a b : Bool) → pauli_entry p a b ≡ ipow (turn_phase p b) ⊗ cond (beq (turn p b) a) g1 g0
 unfolding one-rule
 one p a b =
-    eqG→eq (pauliEntry p a b) (ipow (turnPhase p b) ⊗ cond (beq (turn p b) a) g1 g0)
+    eq_g→eq (pauli_entry p a b) (ipow (turn_phase p b) ⊗ cond (beq (turn p b) a) g1 g0)
     (at₃ paulis bools bools one-rule tt p a b)
 
-both : (b : Bool) (s r : List Bool) → cond b g1 g0 ⊗ basis s r ≡ cond (b && sameState s r) g1 g0
+both : (b : Bool) (s r : List Bool) → cond b g1 g0 ⊗ basis s r ≡ cond (b && same_state s r) g1 g0
 both true s r = g1-⊗ (basis s r)
 both false s r = g0-⊗ (basis s r)
 
 pub column-is : (ps : List Pauli) (r s : List Bool) → length r ≡ length ps → length s ≡ length ps
-    → matrix ps r s ≡ ipow (actPhase ps s) ⊗ basis (act ps s) r
+    → matrix ps r s ≡ ipow (act_phase ps s) ⊗ basis (act ps s) r
 column-is [] [] s h k = sym (g1-⊗ g1)
 column-is [] (a ∷ r) s h k = absurd (omega arith)
 column-is (p ∷ ps) [] s h k = absurd (omega arith)
 column-is (p ∷ ps) (a ∷ r) [] h k = absurd (omega arith)
 column-is (p ∷ ps) (a ∷ r) (b ∷ s) h k =
     ap₂ (λ (x y : Gauss). x ⊗ y) (one p a b) (column-is ps r s (suc_inj h) (suc_inj k))
-    ∙ ⊗-four (ipow (turnPhase p b)) (cond (beq (turn p b) a) g1 g0) (ipow (actPhase ps s)) (basis (act ps s) r)
-    ∙ ap₂ (λ (x y : Gauss). x ⊗ y) (sym (ipow-add (turnPhase p b) (actPhase ps s))) (both (beq (turn p b) a) (act ps s) r)
+    ∙ ⊗-four (ipow (turn_phase p b)) (cond (beq (turn p b) a) g1 g0) (ipow (act_phase ps s)) (basis (act ps s) r)
+    ∙ ap₂ (λ (x y : Gauss). x ⊗ y) (sym (ipow-add (turn_phase p b) (act_phase ps s))) (both (beq (turn p b) a) (act ps s) r)
 
 -- at the new state it is a power of i
-pub column-here : (ps : List Pauli) (s : List Bool) → length s ≡ length ps → matrix ps (act ps s) s ≡ ipow (actPhase ps s)
+pub column-here : (ps : List Pauli) (s : List Bool) → length s ≡ length ps → matrix ps (act ps s) s ≡ ipow (act_phase ps s)
 column-here ps s h =
     column-is ps (act ps s) s (length-each turn ps s h) h
-    ∙ ap (λ (x : Gauss). ipow (actPhase ps s) ⊗ x) (basis-here (act ps s))
-    ∙ ⊗-g1 (ipow (actPhase ps s))
+    ∙ ap (λ (x : Gauss). ipow (act_phase ps s) ⊗ x) (basis-here (act ps s))
+    ∙ ⊗-g1 (ipow (act_phase ps s))

@@ -9,10 +9,10 @@ unfoldable pub every : {A : Type 0} → (A → Bool) → List A → Bool
 every f [] = true
 every f (a ∷ l) = f a && every f l
 
-unfoldable pub someBelow : ℕ → (ℕ → Bool) → Bool
-someBelow zero f = false
-someBelow (suc m) f = someBelow m f || f m
+unfoldable pub some_below : ℕ → (ℕ → Bool) → Bool
+some_below zero f = false
+some_below (suc m) f = some_below m f || f m
 
-unfoldable pub everyBelow : ℕ → (ℕ → Bool) → Bool
-everyBelow zero f = true
-everyBelow (suc m) f = everyBelow m f && f m
+unfoldable pub every_below : ℕ → (ℕ → Bool) → Bool
+every_below zero f = true
+every_below (suc m) f = every_below m f && f m

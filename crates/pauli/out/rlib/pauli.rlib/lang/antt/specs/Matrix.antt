@@ -7,23 +7,23 @@ use Rattle.pauli.specs.Pauli.{Pauli, I, X, Y, Z}
 use Rattle.pauli.specs.Row.{Row}
 
 -- the entry of a Pauli's matrix in a row and a column
-abbrev pub pauliEntry : Pauli → Bool → Bool → Gauss
-pauliEntry I false false = g1
-pauliEntry I false true = g0
-pauliEntry I true false = g0
-pauliEntry I true true = g1
-pauliEntry X false false = g0
-pauliEntry X false true = g1
-pauliEntry X true false = g1
-pauliEntry X true true = g0
-pauliEntry Y false false = g0
-pauliEntry Y false true = minus gi
-pauliEntry Y true false = gi
-pauliEntry Y true true = g0
-pauliEntry Z false false = g1
-pauliEntry Z false true = g0
-pauliEntry Z true false = g0
-pauliEntry Z true true = minus g1
+abbrev pub pauli_entry : Pauli → Bool → Bool → Gauss
+pauli_entry I false false = g1
+pauli_entry I false true = g0
+pauli_entry I true false = g0
+pauli_entry I true true = g1
+pauli_entry X false false = g0
+pauli_entry X false true = g1
+pauli_entry X true false = g1
+pauli_entry X true true = g0
+pauli_entry Y false false = g0
+pauli_entry Y false true = minus gi
+pauli_entry Y true false = gi
+pauli_entry Y true true = g0
+pauli_entry Z false false = g1
+pauli_entry Z false true = g0
+pauli_entry Z true false = g0
+pauli_entry Z true true = minus g1
 
 -- a matrix on n qubits: an entry for each two basis states
 abbrev pub Matrix : Type 0
@@ -34,7 +34,7 @@ abbrev pub matrix : List Pauli → Matrix
 matrix [] r c = g1
 matrix (p ∷ ps) [] c = g0
 matrix (p ∷ ps) (a ∷ r) [] = g0
-matrix (p ∷ ps) (a ∷ r) (b ∷ c) = pauliEntry p a b ⊗ matrix ps r c
+matrix (p ∷ ps) (a ∷ r) (b ∷ c) = pauli_entry p a b ⊗ matrix ps r c
 
 -- the sum over all basis states of n qubits
 abbrev pub sum : ℕ → (List Bool → Gauss) → Gauss
@@ -66,17 +66,17 @@ Anticommute n A B = Same n (times n A B) (negated (times n B A))
 -- ---- rows
 
 -- the Paulis at the n qubits of a row: from the list's end on they are I
-unfoldable pub onQubits : ℕ → List Pauli → List Pauli
-onQubits zero ps = []
-onQubits (suc n) [] = I ∷ onQubits n []
-onQubits (suc n) (p ∷ ps) = p ∷ onQubits n ps
+unfoldable pub on_qubits : ℕ → List Pauli → List Pauli
+on_qubits zero ps = []
+on_qubits (suc n) [] = I ∷ on_qubits n []
+on_qubits (suc n) (p ∷ ps) = p ∷ on_qubits n ps
 
 -- the matrix of a row on n qubits without its phase; and with it, i to the p times that
-abbrev pub matrixOf : ℕ → Row → Matrix
-matrixOf n r = matrix (onQubits n r.ps)
+abbrev pub matrix_of : ℕ → Row → Matrix
+matrix_of n r = matrix (on_qubits n r.ps)
 
-abbrev pub rowMatrix : ℕ → Row → Matrix
-rowMatrix n r = scaled (ipow r.p) (matrixOf n r)
+abbrev pub row_matrix : ℕ → Row → Matrix
+row_matrix n r = scaled (ipow r.p) (matrix_of n r)
 
 -- ---- vectors
 
@@ -85,14 +85,14 @@ abbrev pub Vector : Type 0
 Vector = List Bool → Gauss
 
 -- the vector of a basis state: 1 at the state, 0 at every other
-abbrev pub sameState : List Bool → List Bool → Bool
-sameState [] [] = true
-sameState [] (b ∷ r) = false
-sameState (a ∷ s) [] = false
-sameState (a ∷ s) (b ∷ r) = beq a b && sameState s r
+abbrev pub same_state : List Bool → List Bool → Bool
+same_state [] [] = true
+same_state [] (b ∷ r) = false
+same_state (a ∷ s) [] = false
+same_state (a ∷ s) (b ∷ r) = beq a b && same_state s r
 
 abbrev pub basis : List Bool → Vector
-basis s r = cond (sameState s r) g1 g0
+basis s r = cond (same_state s r) g1 g0
 
 -- a matrix applied to a vector on n qubits
 abbrev pub apply : ℕ → Matrix → Vector → Vector

@@ -14,17 +14,17 @@ of_bits true false = X
 of_bits true true = Y
 of_bits false true = Z
 
-abbrev pub hasX : Pauli → Bool
-hasX I = false
-hasX X = true
-hasX Y = true
-hasX Z = false
+abbrev pub has_x : Pauli → Bool
+has_x I = false
+has_x X = true
+has_x Y = true
+has_x Z = false
 
-abbrev pub hasZ : Pauli → Bool
-hasZ I = false
-hasZ X = false
-hasZ Y = true
-hasZ Z = true
+abbrev pub has_z : Pauli → Bool
+has_z I = false
+has_z X = false
+has_z Y = true
+has_z Z = true
 
 infixl 70 ◌·◌
 -- the product, without its power of i
@@ -86,20 +86,20 @@ turn X b = not b
 turn Y b = not b
 turn Z b = b
 
-abbrev pub turnPhase : Pauli → Bool → ℕ
-turnPhase I b = 0
-turnPhase X b = 0
-turnPhase Y false = 1
-turnPhase Y true = 3
-turnPhase Z false = 0
-turnPhase Z true = 2
+abbrev pub turn_phase : Pauli → Bool → ℕ
+turn_phase I b = 0
+turn_phase X b = 0
+turn_phase Y false = 1
+turn_phase Y true = 3
+turn_phase Z false = 0
+turn_phase Z true = 2
 
 -- a list of Paulis on a basis state
 abbrev pub act : List Pauli → List Bool → List Bool
 act = each turn
 
-abbrev pub actPhase : List Pauli → List Bool → ℕ
-actPhase = total turnPhase
+abbrev pub act_phase : List Pauli → List Bool → ℕ
+act_phase = total turn_phase
 
 -- 1 where two Paulis differ and neither is I
 abbrev pub clash : Pauli → Pauli → ℕ
