@@ -1,0 +1,7 @@
+use mathlib.Core.Path.{sym}
+use Rattle.encoding.proofs.Spare.{above-is}
+use Rattle.encoding.proofs.above.Goals as goal
+
+pub returns : goal.returns
+returns c =
+    sym (above-is c.args.k c.args.x c.args.z c.requires c.ranges.x.fits c.ranges.z.fits)

@@ -1,0 +1,14 @@
+-- No row below r has a bit at n or above. Where n is a multiple of 64 no row can have one (`rows_none`); else only the last word of a row can,
+-- so that looking at that word decides row r (`row_last`): the call ends at the first row found, or with all m rows behind it.
+use mathlib.Core.Bool.{false}
+use Rattle.encoding.specs.Refusals.{some_below}
+use Rattle.encoding.proofs.Spare.{high}
+use mathlib.Core.Path.{◌≡◌}
+use Prim.Native.Nat.{◌-◌, ◌≤◌}
+use Rattle.encoding.proofs.bad_bits.Given as goal
+
+abbrev pub invariant-loop-r : goal.invariant-loop-r
+invariant-loop-r l = (l.r ≤ l.m) × (some_below l.r (high l.n l.w l.x l.z) ≡ false)
+
+abbrev pub decreases-loop-r : goal.decreases-loop-r
+decreases-loop-r l = l.m - l.r

@@ -1,0 +1,11 @@
+use mathlib.Core.Path.{refl, sym}
+use Rattle.encoding.specs.Refusals.{bad_phases}
+use Rattle.encoding.proofs.Exponents.{spare-out}
+use Rattle.encoding.proofs.bad_phases.Goals as goal
+
+pub returns-then-j-p : goal.returns-then-j-p
+unfolding bad_phases
+returns-then-j-p c = refl
+
+pub returns : goal.returns
+returns c = sym (spare-out c.args.m c.args.p.now c.if-j-p.false)
