@@ -92,8 +92,8 @@ module _ {R : Type 0} (bit : R → ℕ → Bool) (σ : ℕ → R) (all : List �
         rising = λ i j h h'. omega (arith, F.rising i j h h');
         one = F.one;
         others = F.others;
-        before = λ j p. elim p [ zero ↦ λ h h'. z _ (in-get_or rest j (omega (arith, F.fits))) | suc q ↦ λ h h'. F.before j q h (omega arith) ];
-        after = λ j p. elim p [ zero ↦ λ h h' h''. z _ (in-get_or rest j h') | suc q ↦ λ h h' h''. F.after j q h h' (omega arith) ];
+        before = λ j. elim [ zero ↦ λ h h'. z _ (in-get_or rest j (omega (arith, F.fits))) | suc q ↦ λ h h'. F.before j q h (omega arith) ];
+        after = λ j. elim [ zero ↦ λ h h' h''. z _ (in-get_or rest j h') | suc q ↦ λ h h' h''. F.after j q h h' (omega arith) ];
       }
   walk→form d sub (pivot_at {p} {rest} {c} {cs} o y r) =
       let F = walk→form d.1 (λ k m. sub k (inr m)) r in
@@ -103,12 +103,12 @@ module _ {R : Type 0} (bit : R → ℕ → Bool) (σ : ℕ → R) (all : List �
         t = suc F.t;
         place = further F.place;
         fits = omega (arith, F.fits);
-        inside = λ j. elim j [ zero ↦ λ h. omega arith | suc i ↦ λ h. omega (arith, F.inside i (omega arith)) ];
-        rising = λ i j. elim j [ zero ↦ λ h h'. absurd (omega arith) | suc j' ↦ elim i [ zero ↦ λ h h'. omega arith | suc i' ↦ λ h h'. omega (arith, F.rising i' j' (omega arith) (omega arith)) ] ];
-        one = λ j. elim j [ zero ↦ λ h. o | suc i ↦ λ h. F.one i (omega arith) ];
-        before = λ j q. elim j [ zero ↦ λ h h'. absurd (omega arith) | suc i ↦ elim q [ zero ↦ λ h h'. zero-at i (omega (arith, F.fits)) | suc q' ↦ λ h h'. F.before i q' (omega arith) (omega arith) ] ];
-        others = λ j k. elim j [ zero ↦ λ h m n. y k m n | suc i ↦ λ h m n. F.others i k (omega arith) m n ];
-        after = λ j q. elim j [ zero ↦ λ h h' h''. absurd (omega arith) | suc i ↦ elim q [ zero ↦ λ h h' h''. zero-at i (omega arith) | suc q' ↦ λ h h' h''. F.after i q' (omega arith) (omega arith) (omega arith) ] ];
+        inside = elim [ zero ↦ λ h. omega arith | suc i ↦ λ h. omega (arith, F.inside i (omega arith)) ];
+        rising = elim [ zero ↦ elim [ zero ↦ λ h h'. absurd (omega arith) | suc j' ↦ λ h h'. omega arith ] | suc i' ↦ elim [ zero ↦ λ h h'. absurd (omega arith) | suc j' ↦ λ h h'. omega (arith, F.rising i' j' (omega arith) (omega arith)) ] ];
+        one = elim [ zero ↦ λ h. o | suc i ↦ λ h. F.one i (omega arith) ];
+        before = elim [ zero ↦ λ q h h'. absurd (omega arith) | suc i ↦ elim [ zero ↦ λ h h'. zero-at i (omega (arith, F.fits)) | suc q' ↦ λ h h'. F.before i q' (omega arith) (omega arith) ] ];
+        others = elim [ zero ↦ λ k h m n. y k m n | suc i ↦ λ k h m n. F.others i k (omega arith) m n ];
+        after = elim [ zero ↦ λ q h h' h''. absurd (omega arith) | suc i ↦ elim [ zero ↦ λ h h' h''. zero-at i (omega arith) | suc q' ↦ λ h h' h''. F.after i q' (omega arith) (omega arith) (omega arith) ] ];
       }
 
   form-pivots : {rest order : List ℕ} (d : Distinct rest) (sub : (k : ℕ) → In k rest → In k all) (w : Walk bit σ all rest order) → (walk→form d sub w).t ≡ pivots w
@@ -159,7 +159,7 @@ module _ {R : Type 0} (bit : R → ℕ → Bool) (σ : ℕ → R) (all : List �
       let pos : (j : ℕ) → j < F.t → 0 < F.place j = λ j h. omega arith in
       skip (skip-zero rest c cs F pos) (rec rest (form-skip rest c cs F pos))
   form-step c cs rec rest F (suc t) (suc q) ht hq =
-      let pos : (j : ℕ) → j < F.t → 0 < F.place j = λ j. elim j [ zero ↦ λ h. omega arith | suc i ↦ λ h. omega (arith, F.rising 0 (suc i) (omega arith) h) ] in
+      let pos : (j : ℕ) → j < F.t → 0 < F.place j = elim [ zero ↦ λ h. omega arith | suc i ↦ λ h. omega (arith, F.rising 0 (suc i) (omega arith) h) ] in
       skip (skip-zero rest c cs F pos) (rec rest (form-skip rest c cs F pos))
   form-step c cs rec [] F (suc t) zero ht hq = absurd (omega (arith, F.fits))
   form-step c cs rec (p ∷ rest) F (suc t) zero ht hq =
