@@ -1,0 +1,14 @@
+use Rattle.std.proofs.Common.{◌-◌}
+use Rattle.products.proofs.InPlace.{inplace-none, inplace-more, multiplied}
+use Rattle.products.proofs.imul_row.Goals as goal
+
+pub loop-i-init : goal.loop-i-init
+loop-i-init c = inplace-none c.requires
+
+pub loop-i-preserved : goal.loop-i-preserved
+loop-i-preserved c =
+    inplace-more c.requires c.add_clashes-n.result c.turn_threes-f.result c.loop-i.invariant c.loop-i-test.true c.add_clashes-n.ensures c.turn_threes-f.ensures
+
+pub returns : goal.returns
+returns c =
+    multiplied c.requires c.loop-i.invariant c.loop-i-test.false c.slice_known-1.given c.slice_known-2-1.given c.factor_from.ensures.0 c.factor_from.ensures.1

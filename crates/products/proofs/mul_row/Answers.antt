@@ -1,0 +1,14 @@
+use Rattle.std.proofs.Common.{◌-◌}
+use Rattle.products.proofs.RowLaws.{done_none, done_more, done_all}
+use Rattle.products.proofs.mul_row.Goals as goal
+
+pub loop-i-init : goal.loop-i-init
+loop-i-init c = done_none c.requires
+
+pub loop-i-preserved : goal.loop-i-preserved
+loop-i-preserved c =
+    done_more c.requires c.add_clashes-n.result c.turn_threes-f.result c.loop-i.invariant c.loop-i-test.true c.add_clashes-n.ensures c.turn_threes-f.ensures
+
+pub returns : goal.returns
+returns c =
+    done_all c.requires c.loop-i.invariant c.loop-i-test.false c.type_inv.lx c.type_inv.lz c.type_inv.rx c.type_inv.rz c.factor_from.ensures.0 c.factor_from.ensures.1
