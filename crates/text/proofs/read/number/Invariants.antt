@@ -1,0 +1,11 @@
+-- What is left, read on behind the digits passed, is the whole, read from the start (Reading): a turn ends at no digit, at a digit
+-- that may not stand there, or takes one; what takes says keeps the number within `most`, so that nothing wraps.
+use Rattle.text.proofs.Kit.{◌-◌, length}
+use Rattle.text.proofs.Reading.{Reading}
+use Rattle.text.proofs.read.number.Given as goal
+
+abbrev pub invariant-loop-i : goal.invariant-loop-i
+invariant-loop-i l = Reading l.base l.most l.s l.at l.v l.i l.left
+
+abbrev pub decreases-loop-i : goal.decreases-loop-i
+decreases-loop-i l = length l.s - l.i
