@@ -8,7 +8,7 @@ use crate::{Found, Place};
 use pauli::ComplexSign;
 
 // A complex whole number.
-#[derive(Drop)]
+#[derive(Clone, Copy)]
 pub struct Complex {
     pub re: i64,
     pub im: i64,
