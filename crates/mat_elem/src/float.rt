@@ -10,7 +10,7 @@ use crate::Found;
 use pauli::ComplexSign;
 
 // A complex number.
-#[derive(Drop)]
+#[derive(Clone, Copy)]
 pub struct Complex {
     pub re: f64,
     pub im: f64,
