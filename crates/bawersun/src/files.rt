@@ -1,8 +1,9 @@
 // Log files: the calls of the crate pwl. A front is six numbers, each through a reference of its own.
-ghost use Rattle.pwl.specs.Calls.{opened, Writes, Reads};
-ghost use Rattle.pwl.specs.Lent.{run_before, outputs_before, outputs_after};
+ghost use Rattle.pwl.specs.File.{run};
+ghost use Rattle.pwl.specs.File.{front_of};
+ghost use Rattle.pwl.specs.Calls.{opened, Writes, Reads, outputs};
 ghost use Rattle.bawersun.specs.Told.{Told, Exactly, Gives};
-ghost use Rattle.bawersun.specs.Files.{opened_seen, front_before, front_after, image_seen};
+ghost use Rattle.bawersun.specs.Files.{opened_seen, image_seen};
 
 use pwl::{Opened, Written};
 
@@ -16,7 +17,7 @@ fn fronted(
     extra: &mut usize,
     entries: &mut usize,
 ) -> u8
-    ensures { Gives opened_seen (front_before n m order listed extra entries) (front_after n m order listed extra entries) result a }
+    ensures { Gives opened_seen (front_of n.old m.old order.old listed.old extra.old entries.old) (front_of n.new m.new order.new listed.new extra.new entries.new) result a }
 {
     match a {
         Opened::Whole(f) => {
@@ -43,7 +44,7 @@ pub extern "C" fn bawersun_pwl_open(
     entries: &mut usize,
 ) -> u8
     ensures { Told (Exactly (opened file.now))
-        (Gives opened_seen (front_before n m order listed extra entries) (front_after n m order listed extra entries) result) }
+        (Gives opened_seen (front_of n.old m.old order.old listed.old extra.old entries.old) (front_of n.new m.new order.new listed.new extra.new entries.new) result) }
 {
     fronted(pwl::open(file), n, m, order, listed, extra, entries)
 }
@@ -78,7 +79,7 @@ pub extern "C" fn bawersun_pwl_write(
     out: &mut [u8],
     length: &mut usize,
 ) -> u8
-    ensures { Told (Writes (run_before n m order listed extra x z phases log cx cz cphases) out.old out.new)
+    ensures { Told (Writes (run n m order.now listed.now extra.now x.now z.now phases.now log.now cx.now cz.now cphases.now) out.old out.new)
         (Gives image_seen length.old length.new result) }
 {
     let a = pwl::write(
@@ -102,8 +103,8 @@ pub extern "C" fn bawersun_pwl_read(
     extra: &mut usize,
     entries: &mut usize,
 ) -> u8
-    ensures { Told (Reads file.now (outputs_before units x z phases claimed) (outputs_after units x z phases claimed))
-        (Gives opened_seen (front_before n m order listed extra entries) (front_after n m order listed extra entries) result) }
+    ensures { Told (Reads file.now (outputs units.old x.old z.old phases.old claimed.old) (outputs units.new x.new z.new phases.new claimed.new))
+        (Gives opened_seen (front_of n.old m.old order.old listed.old extra.old entries.old) (front_of n.new m.new order.new listed.new extra.new entries.new) result) }
 {
     let a = pwl::read(file, units, x, z, phases, claimed);
     fronted(a, n, m, order, listed, extra, entries)

@@ -4,10 +4,12 @@
 
 mod files;
 
+ghost use Rattle.mat_elem.specs.states.Sums.{terms};
+ghost use Rattle.mat_elem.specs.states.Sums.{state};
+ghost use Rattle.encoding.specs.Set.{mem_of};
 ghost use Rattle.std.specs.Prelude.{◌≡◌, ◌%◌};
 ghost use Rattle.pauli.specs.Pauli.{phases as Pauli·phases, act_phase};
 ghost use Rattle.encoding.specs.Words.{word, bits};
-ghost use Rattle.encoding.specs.Lent.{before, after};
 ghost use Rattle.cmpnt_list.specs.Calls.{get_qubit, SetQubit, count_in, phase_of_mul, commutes_with, belongs_to_centralizer};
 ghost use Rattle.cmpnt_list.specs.Calls.{CompatibilityMatrix, MulPairwise, ImulState};
 ghost use Rattle.terms.specs.Calls.{Multiplies, Reduces, ReducesAll};
@@ -17,7 +19,6 @@ ghost use Rattle.row_text.specs.Calls.{FmtElem, ParseElem};
 ghost use Rattle.clifford.specs.Calls.{Conjugates};
 ghost use Rattle.mat_elem.specs.float.Product.{MatElem};
 ghost use Rattle.mat_elem.specs.whole.Sums as whole;
-ghost use Rattle.mat_elem.specs.Lent.{content, terms_lent, state_lent};
 ghost use Rattle.mat_elem.specs.states.Vectors as states;
 ghost use Rattle.bawersun.specs.Told.{Told, Exactly, Gives, Number, number_of};
 ghost use Rattle.bawersun.specs.Told.{pauli_number, pauli_of, row_for, got_seen, tally_seen, truth_bit, truth_seen, written_seen, phase_seen, clashes_seen};
@@ -115,7 +116,7 @@ pub extern "C" fn bawersun_get_qubit(
     qubit: usize,
     pauli: &mut u8,
 ) -> u8
-    ensures { Told (Exactly (get_qubit n (before m x z phases) row qubit))
+    ensures { Told (Exactly (get_qubit n (mem_of m x.now z.now phases.now) row qubit))
         (Gives got_seen pauli.old pauli.new result) }
 {
     let a = cmpnt_list::get_qubit(n, m, x, z, phases, RowNumber(row), QubitNumber(qubit));
@@ -133,7 +134,7 @@ pub extern "C" fn bawersun_set_qubit(
     qubit: usize,
     pauli: u8,
 ) -> u8
-    ensures { Told (SetQubit n (before m x z phases) (row_for pauli m row) qubit (pauli_of pauli) (after m x z phases)) (Number result) }
+    ensures { Told (SetQubit n (mem_of m x.old z.old phases.now) (row_for pauli m row) qubit (pauli_of pauli) (mem_of m x.new z.new phases.now)) (Number result) }
 {
     let k = row_for(pauli, m, row);
     let p = pauli_of(pauli);
@@ -164,7 +165,7 @@ pub extern "C" fn bawersun_count(
     pauli: u8,
     count: &mut u64,
 ) -> u8
-    ensures { Told (Exactly (count_in n (before m x z phases) (row_for pauli m row) (pauli_of pauli)))
+    ensures { Told (Exactly (count_in n (mem_of m x.now z.now phases.now) (row_for pauli m row) (pauli_of pauli)))
         (Gives tally_seen count.old count.new result) }
 {
     let k = row_for(pauli, m, row);
@@ -204,7 +205,7 @@ pub extern "C" fn bawersun_commutes_with(
     b: usize,
     truth: &mut u8,
 ) -> u8
-    ensures { Told (Exactly (commutes_with n (before m x z phases) a b))
+    ensures { Told (Exactly (commutes_with n (mem_of m x.now z.now phases.now) a b))
         (Gives truth_seen truth.old truth.new result) }
 {
     let t = cmpnt_list::commutes_with(n, m, x, z, phases, RowNumber(a), RowNumber(b));
@@ -221,7 +222,7 @@ pub extern "C" fn bawersun_belongs_to_centralizer(
     row: usize,
     truth: &mut u8,
 ) -> u8
-    ensures { Told (Exactly (belongs_to_centralizer n (before m x z phases) row))
+    ensures { Told (Exactly (belongs_to_centralizer n (mem_of m x.now z.now phases.now) row))
         (Gives truth_seen truth.old truth.new result) }
 {
     let t = cmpnt_list::belongs_to_centralizer(n, m, x, z, phases, RowNumber(row));
@@ -237,7 +238,7 @@ pub extern "C" fn bawersun_compatibility_matrix(
     phases: &[u64],
     out: &mut [u64],
 ) -> u8
-    ensures { Told (CompatibilityMatrix n (before m x z phases) out.old out.new) (Number result) }
+    ensures { Told (CompatibilityMatrix n (mem_of m x.now z.now phases.now) out.old out.new) (Number result) }
 {
     number(cmpnt_list::compatibility_matrix(n, m, x, z, phases, out))
 }
@@ -257,7 +258,7 @@ pub extern "C" fn bawersun_cmpnts_mul_pairwise(
     op: &mut [u64],
     clashes: &mut [u16],
 ) -> u8
-    ensures { Told (MulPairwise n (before m lx lz lp) (before m rx rz rp) (before m ox oz op) (after m ox oz op) clashes.old
+    ensures { Told (MulPairwise n (mem_of m lx.now lz.now lp.now) (mem_of m rx.now rz.now rp.now) (mem_of m ox.old oz.old op.old) (mem_of m ox.new oz.new op.new) clashes.old
         clashes.new) (Number result) }
 {
     number(cmpnt_list::cmpnts_mul_pairwise(n, m, lx, lz, lp, rx, rz, rp, ox, oz, op, clashes))
@@ -287,7 +288,7 @@ pub extern "C" fn bawersun_phase_of_mul(
     b: usize,
     exponent: &mut u8,
 ) -> u8
-    ensures { Told (Exactly (phase_of_mul n (before m x z phases) a b))
+    ensures { Told (Exactly (phase_of_mul n (mem_of m x.now z.now phases.now) a b))
         (Gives phase_seen exponent.old exponent.new result) }
 {
     let e = cmpnt_list::phase_of_mul(n, m, x, z, phases, RowNumber(a), RowNumber(b));
@@ -305,7 +306,7 @@ pub extern "C" fn bawersun_phase_of_mul_by_table(
     b: usize,
     exponent: &mut u8,
 ) -> u8
-    ensures { Told (Exactly (phase_of_mul n (before m x z phases) a b))
+    ensures { Told (Exactly (phase_of_mul n (mem_of m x.now z.now phases.now) a b))
         (Gives phase_seen exponent.old exponent.new result) }
 {
     let e = cmpnt_list::phase_of_mul_by_table(n, m, x, z, phases, RowNumber(a), RowNumber(b));
@@ -323,7 +324,7 @@ pub extern "C" fn bawersun_imul_state(
     state: &mut [u64],
     exponent: &mut u8,
 ) -> u8
-    ensures { Told (ImulState n (before m x z phases) row state.old state.new)
+    ensures { Told (ImulState n (mem_of m x.now z.now phases.now) row state.old state.new)
         (Gives phase_seen exponent.old exponent.new result) }
 {
     let e = cmpnt_list::imul_state(n, m, x, z, phases, RowNumber(row), state);
@@ -354,7 +355,7 @@ pub extern "C" fn bawersun_imul(
     b: usize,
     clashes: &mut u16,
 ) -> u8
-    ensures { Told (Multiplies n a b (before m x z phases) (after m x z phases))
+    ensures { Told (Multiplies n a b (mem_of m x.old z.old phases.old) (mem_of m x.new z.new phases.new))
         (Gives clashes_seen clashes.old clashes.new result) }
 {
     let d = terms::imul(n, m, x, z, phases, RowNumber(a), RowNumber(b));
@@ -393,8 +394,8 @@ pub extern "C" fn bawersun_canonicalize(
     entries: &mut usize,
     t: &mut usize,
 ) -> u8
-    ensures { Told (Reduces n order.now listed.now extra.now (before m x z phases) log.old
-        (after m x z phases) log.new) (Counted entries.old t.old entries.new t.new result) }
+    ensures { Told (Reduces n order.now listed.now extra.now (mem_of m x.old z.old phases.old) log.old
+        (mem_of m x.new z.new phases.new) log.new) (Counted entries.old t.old entries.new t.new result) }
 {
     let a = terms::canonicalize(n, m, x, z, phases, order, listed, extra, log);
     counted(a, entries, t)
@@ -411,7 +412,7 @@ pub extern "C" fn bawersun_canonicalize_all(
     entries: &mut usize,
     t: &mut usize,
 ) -> u8
-    ensures { Told (ReducesAll n (before m x z phases) log.old (after m x z phases) log.new)
+    ensures { Told (ReducesAll n (mem_of m x.old z.old phases.old) log.old (mem_of m x.new z.new phases.new) log.new)
         (Counted entries.old t.old entries.new t.new result) }
 {
     let a = terms::canonicalize_all(n, m, x, z, phases, log);
@@ -453,8 +454,8 @@ pub extern "C" fn bawersun_check(
     cphases: &[u64],
     place: &mut usize,
 ) -> u8
-    ensures { Told (CheckedOn (task n (before m x z phases) order.now listed.now extra.now)
-        (claim log.now (before m cx cz cphases)) (after m x z phases))
+    ensures { Told (CheckedOn (task n (mem_of m x.old z.old phases.old) order.now listed.now extra.now)
+        (claim log.now (mem_of m cx.now cz.now cphases.now)) (mem_of m x.new z.new phases.new))
         (Gives verdict_seen place.old place.new result) }
 {
     let v = replay::check(
@@ -489,7 +490,7 @@ pub extern "C" fn bawersun_undo(
     log: &[u16],
     place: &mut usize,
 ) -> u8
-    ensures { Told (Undoes n listed.now extra.now log.now (before m x z phases) (after m x z phases))
+    ensures { Told (Undoes n listed.now extra.now log.now (mem_of m x.old z.old phases.old) (mem_of m x.new z.new phases.new))
         (Gives undone_seen place.old place.new result) }
 {
     let a = replay::undo::undo(n, m, x, z, phases, listed, extra, log);
@@ -522,7 +523,7 @@ pub extern "C" fn bawersun_fmt_elem(
     out: &mut [u8],
     length: &mut usize,
 ) -> u8
-    ensures { Told (FmtElem n (before m x z phases) row out.old out.new)
+    ensures { Told (FmtElem n (mem_of m x.now z.now phases.now) row out.old out.new)
         (Gives written_seen length.old length.new result) }
 {
     let a = row_text::fmt_elem(n, m, x, z, phases, RowNumber(row), out);
@@ -539,7 +540,7 @@ pub extern "C" fn bawersun_parse_elem(
     row: usize,
     text: &[u8],
 ) -> u8
-    ensures { Told (ParseElem n (before m x z phases) row text.now (after m x z phases)) (Number result) }
+    ensures { Told (ParseElem n (mem_of m x.old z.old phases.now) row text.now (mem_of m x.new z.new phases.now)) (Number result) }
 {
     number(row_text::parse_elem(n, m, x, z, phases, RowNumber(row), text))
 }
@@ -555,7 +556,7 @@ pub extern "C" fn bawersun_conj_h(
     phases: &mut [u64],
     q: usize,
 ) -> u8
-    ensures { Told (Conjugates n (h_of q) (before m x z phases) (after m x z phases)) (Number result) }
+    ensures { Told (Conjugates n (h_of q) (mem_of m x.old z.old phases.old) (mem_of m x.new z.new phases.new)) (Number result) }
 {
     let g = Gate::H(QubitNumber(q));
     number(clifford::conj_clifford(n, m, x, z, phases, g))
@@ -570,7 +571,7 @@ pub extern "C" fn bawersun_conj_s(
     phases: &mut [u64],
     q: usize,
 ) -> u8
-    ensures { Told (Conjugates n (s_of q) (before m x z phases) (after m x z phases)) (Number result) }
+    ensures { Told (Conjugates n (s_of q) (mem_of m x.old z.old phases.old) (mem_of m x.new z.new phases.new)) (Number result) }
 {
     let g = Gate::S(QubitNumber(q));
     number(clifford::conj_clifford(n, m, x, z, phases, g))
@@ -586,7 +587,7 @@ pub extern "C" fn bawersun_conj_cx(
     control: usize,
     target: usize,
 ) -> u8
-    ensures { Told (Conjugates n (cx_of control target) (before m x z phases) (after m x z phases)) (Number result) }
+    ensures { Told (Conjugates n (cx_of control target) (mem_of m x.old z.old phases.old) (mem_of m x.new z.new phases.new)) (Number result) }
 {
     let g = Gate::CX {
         control: QubitNumber(control),
@@ -658,7 +659,7 @@ pub extern "C" fn bawersun_mat_elem_cmpnts_from_presorted_whole(
     real: &mut i64,
     imag: &mut i64,
 ) -> u8
-    ensures { Told (whole.MatElem n (content x) (content z) (content re) (content im) bra ket)
+    ensures { Told (whole.MatElem n (x.now) (z.now) (re.now) (im.now) bra ket)
         (Gives whole_seen (parts real.old imag.old) (parts real.new imag.new) result) }
 {
     let a = mat_elem::whole::mat_elem_cmpnts_from_presorted(n, x, z, re, im, bra, ket);
@@ -695,7 +696,7 @@ pub extern "C" fn bawersun_mat_elem_from_presorted(
     real: &mut i64,
     imag: &mut i64,
 ) -> u8
-    ensures { Told (states.MatElem n (terms_lent x z re im) (state_lent bras bre bim) (state_lent kets kre kim))
+    ensures { Told (states.MatElem n (terms x.now z.now re.now im.now) (state bras.now bre.now bim.now) (state kets.now kre.now kim.now))
         (Gives total_seen (parts real.old imag.old) (parts real.new imag.new) result) }
 {
     let a = mat_elem::states::mat_elem_from_presorted(

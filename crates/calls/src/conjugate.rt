@@ -1,10 +1,10 @@
 // Gates: every row of a set conjugated by the gate that a line names.
+ghost use Rattle.encoding.specs.Set.{mem_of};
 ghost use Rattle.std.specs.Prelude.{◌≡◌, ◌≤◌, length, drop};
 ghost use Rattle.text.specs.Readers.{Reads};
 ghost use Rattle.text.specs.Workers.{past};
 ghost use Rattle.text.specs.Lines.{field};
 ghost use Rattle.calls.specs.Gate.{one_qubit_gate, hadamard, turn, two_qubits, gate as gateForm};
-ghost use Rattle.encoding.specs.Lent.{before};
 ghost use Rattle.forms.specs.Answers.{Says};
 ghost use Rattle.calls.specs.Answer.{gated};
 
@@ -92,7 +92,7 @@ pub(crate) fn gate(
     out: &mut [u8],
     r: Put,
 ) -> Put
-    ensures { Says (gated n (before m x z p) (drop at s.now)) out.old r out.new result }
+    ensures { Says (gated n (mem_of m x.old z.old p.old) (drop at s.now)) out.old r out.new result }
 {
     let g = read_gate(s, at);
     if !(g.ok & (g.at == s.len())) {

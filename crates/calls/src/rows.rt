@@ -1,6 +1,6 @@
 // The calls on the rows of one set: what stands behind it in the line is read, the call is made, and its answer written. The parts of the set are lent (`sets`).
+ghost use Rattle.encoding.specs.Set.{mem_of};
 ghost use Rattle.std.specs.Prelude.{length, drop};
-ghost use Rattle.encoding.specs.Lent.{before};
 ghost use Rattle.forms.specs.Answers.{Says};
 ghost use Rattle.calls.specs.Answer.{of_two, of_one, two as twoAnswer, one' as oneAnswer, imul as imulAnswer, set as setAnswer, acted_on, act_in, compared, matrix_in};
 ghost use Rattle.calls.specs.Limits.{most_words};
@@ -24,7 +24,7 @@ fn asked_two(
     out: &mut [u8],
     r: Put,
 ) -> Put
-    ensures { Says (of_two c n (before m x z p) a b) out.old r out.new result }
+    ensures { Says (of_two c n (mem_of m x.now z.now p.now) a b) out.old r out.new result }
 {
     match c {
         OfTwo::Get => {
@@ -58,7 +58,7 @@ pub(crate) fn two(
     out: &mut [u8],
     r: Put,
 ) -> Put
-    ensures { Says (twoAnswer c n (before m x z p) (drop at s.now)) out.old r out.new result }
+    ensures { Says (twoAnswer c n (mem_of m x.now z.now p.now) (drop at s.now)) out.old r out.new result }
 {
     let q = read::read_two(s, at);
     if !(q.ok & (q.at == s.len())) {
@@ -78,7 +78,7 @@ fn counted(
     out: &mut [u8],
     r: Put,
 ) -> Put
-    ensures { Says (of_one OfOne.Count n (before m x z p) row) out.old r out.new result }
+    ensures { Says (of_one OfOne.Count n (mem_of m x.now z.now p.now) row) out.old r out.new result }
 {
     let ni = cmpnt_list::count(n, m, x, z, p, RowNumber(row), PauliMatrix::I);
     let nx = cmpnt_list::count(n, m, x, z, p, RowNumber(row), PauliMatrix::X);
@@ -98,7 +98,7 @@ fn asked_one(
     out: &mut [u8],
     r: Put,
 ) -> Put
-    ensures { Says (of_one c n (before m x z p) row) out.old r out.new result }
+    ensures { Says (of_one c n (mem_of m x.now z.now p.now) row) out.old r out.new result }
 {
     match c {
         OfOne::Count => counted(n, m, x, z, p, row, out, r),
@@ -121,7 +121,7 @@ pub(crate) fn one(
     out: &mut [u8],
     r: Put,
 ) -> Put
-    ensures { Says (oneAnswer c n (before m x z p) (drop at s.now)) out.old r out.new result }
+    ensures { Says (oneAnswer c n (mem_of m x.now z.now p.now) (drop at s.now)) out.old r out.new result }
 {
     let q = number_field(s, at, u64::MAX);
     if !(q.ok & (q.at == s.len())) {
@@ -143,7 +143,7 @@ pub(crate) fn imul(
     out: &mut [u8],
     r: Put,
 ) -> Put
-    ensures { Says (imulAnswer n (before m x z p) (drop at s.now)) out.old r out.new result }
+    ensures { Says (imulAnswer n (mem_of m x.old z.old p.old) (drop at s.now)) out.old r out.new result }
 {
     let q = read::read_two(s, at);
     if !(q.ok & (q.at == s.len())) {
@@ -164,7 +164,7 @@ pub(crate) fn set(
     out: &mut [u8],
     r: Put,
 ) -> Put
-    ensures { Says (setAnswer n (before m x z p) (drop at s.now)) out.old r out.new result }
+    ensures { Says (setAnswer n (mem_of m x.old z.old p.now) (drop at s.now)) out.old r out.new result }
 {
     let q = read::read_two(s, at);
     let l = read::read_letter(s, q.at);
@@ -189,7 +189,7 @@ fn on_state(
     out: &mut [u8],
     r: Put,
 ) -> Put
-    ensures { Says (acted_on n (before m x z p) row state.old) out.old r out.new result }
+    ensures { Says (acted_on n (mem_of m x.now z.now p.now) row state.old) out.old r out.new result }
 {
     let a = cmpnt_list::imul_state(n, m, x, z, p, RowNumber(row), state);
     say::acted(out, r, a, state)
@@ -207,7 +207,7 @@ fn acted(
     out: &mut [u8],
     r: Put,
 ) -> Put
-    ensures { Says (act_in (length state.old) n (before m x z p) (drop at s.now))
+    ensures { Says (act_in (length state.old) n (mem_of m x.now z.now p.now) (drop at s.now))
         out.old r out.new result }
 {
     let q = number_field(s, at, u64::MAX);
@@ -230,7 +230,7 @@ pub(crate) fn act(
     out: &mut [u8],
     r: Put,
 ) -> Put
-    ensures { Says (act_in most_words n (before m x z p) (drop at s.now)) out.old r out.new result }
+    ensures { Says (act_in most_words n (mem_of m x.now z.now p.now) (drop at s.now)) out.old r out.new result }
 {
     let mut state = [0u64; WORDS];
     acted(s, at, n, m, x, z, p, &mut state, out, r)
@@ -246,7 +246,7 @@ fn into_matrix(
     out: &mut [u8],
     r: Put,
 ) -> Put
-    ensures { Says (compared n (before m x z p) (length v.old)) out.old r out.new result }
+    ensures { Says (compared n (mem_of m x.now z.now p.now) (length v.old)) out.old r out.new result }
 {
     let a = cmpnt_list::compatibility_matrix(n, m, x, z, p, v);
     say::matrix(out, r, a, v)
@@ -264,7 +264,7 @@ fn compare(
     out: &mut [u8],
     r: Put,
 ) -> Put
-    ensures { Says (matrix_in (length v.old) n (before m x z p) (drop at s.now))
+    ensures { Says (matrix_in (length v.old) n (mem_of m x.now z.now p.now) (drop at s.now))
         out.old r out.new result }
 {
     let q = number_field(s, at, v.len() as u64);
@@ -286,7 +286,7 @@ pub(crate) fn matrix(
     out: &mut [u8],
     r: Put,
 ) -> Put
-    ensures { Says (matrix_in most_words n (before m x z p) (drop at s.now)) out.old r out.new result }
+    ensures { Says (matrix_in most_words n (mem_of m x.now z.now p.now) (drop at s.now)) out.old r out.new result }
 {
     let mut v = [0u64; WORDS];
     compare(s, at, n, m, x, z, p, &mut v, out, r)

@@ -1,6 +1,6 @@
 // The calls on a set. Its fields are read and its parts lent here, for all of them: what a call has besides stands behind.
+ghost use Rattle.encoding.specs.Set.{mem_of};
 ghost use Rattle.std.specs.Prelude.{length, drop};
-ghost use Rattle.encoding.specs.Lent.{before};
 ghost use Rattle.forms.specs.Answers.{Says};
 ghost use Rattle.calls.specs.Answer.{lends, changes, on_set, with_set, by_set, Answers};
 
@@ -22,7 +22,7 @@ fn lending(
     out: &mut [u8],
     r: Put,
 ) -> Put
-    ensures { Answers (lends c n (before m x z p) (drop at s.now)) out.old r out.new result }
+    ensures { Answers (lends c n (mem_of m x.now z.now p.now) (drop at s.now)) out.old r out.new result }
 {
     match c {
         Lends::Act => rows::act(s, at, n, m, x, z, p, out, r),
@@ -45,7 +45,7 @@ fn changing(
     out: &mut [u8],
     r: Put,
 ) -> Put
-    ensures { Says (changes c n (before m x z p) (drop at s.now)) out.old r out.new result }
+    ensures { Says (changes c n (mem_of m x.old z.old p.old) (drop at s.now)) out.old r out.new result }
 {
     match c {
         Changes::Imul => rows::imul(s, at, n, m, x, z, p, out, r),
@@ -89,7 +89,7 @@ fn called(
     out: &mut [u8],
     r: Put,
 ) -> Put
-    ensures { Answers (on_set c n (before m x z p) (drop at s.now)) out.old r out.new result }
+    ensures { Answers (on_set c n (mem_of m x.old z.old p.old) (drop at s.now)) out.old r out.new result }new result }
 {
     match c {
         OnSet::Two(k) => rows::two(k, s, at, n, m, x, z, p, out, r),

@@ -1,7 +1,7 @@
 // The calls on the text of a row: written into lent bytes, and read, from the rest of the line or from a list of bytes. These bytes are few,
 // and made for the line that has them.
+ghost use Rattle.encoding.specs.Set.{mem_of};
 ghost use Rattle.std.specs.Prelude.{length, drop};
-ghost use Rattle.encoding.specs.Lent.{before};
 ghost use Rattle.forms.specs.Answers.{Says};
 ghost use Rattle.calls.specs.Answer.{row_written, write_in, row_read, read_line, readx_in};
 ghost use Rattle.calls.specs.Limits.{most_text};
@@ -22,7 +22,7 @@ fn into_bytes(
     out: &mut [u8],
     r: Put,
 ) -> Put
-    ensures { Says (row_written n (before m x z p) row (length b.old)) out.old r out.new result }
+    ensures { Says (row_written n (mem_of m x.now z.now p.now) row (length b.old)) out.old r out.new result }
 {
     let a = row_text::fmt_elem(n, m, x, z, p, RowNumber(row), b);
     say::written(out, r, a, b)
@@ -40,7 +40,7 @@ fn written(
     out: &mut [u8],
     r: Put,
 ) -> Put
-    ensures { Says (write_in (length b.old) n (before m x z p) (drop at s.now))
+    ensures { Says (write_in (length b.old) n (mem_of m x.now z.now p.now) (drop at s.now))
         out.old r out.new result }
 {
     let q = number_field(s, at, u64::MAX);
@@ -63,7 +63,7 @@ pub(crate) fn write(
     out: &mut [u8],
     r: Put,
 ) -> Put
-    ensures { Says (write_in most_text n (before m x z p) (drop at s.now)) out.old r out.new result }
+    ensures { Says (write_in most_text n (mem_of m x.now z.now p.now) (drop at s.now)) out.old r out.new result }
 {
     let mut b = [0u8; TEXT];
     written(s, at, n, m, x, z, p, &mut b, out, r)
@@ -80,7 +80,7 @@ fn parsed(
     out: &mut [u8],
     r: Put,
 ) -> Put
-    ensures { Says (row_read n (before m x z p) row t.now) out.old r out.new result }
+    ensures { Says (row_read n (mem_of m x.old z.old p.now) row t.now) out.old r out.new result }
 {
     let a = row_text::parse_elem(n, m, x, z, p, RowNumber(row), t);
     say::changed(out, r, a, x, z, p)
@@ -97,7 +97,7 @@ pub(crate) fn read_text(
     out: &mut [u8],
     r: Put,
 ) -> Put
-    ensures { Says (read_line n (before m x z p) (drop at s.now)) out.old r out.new result }
+    ensures { Says (read_line n (mem_of m x.old z.old p.now) (drop at s.now)) out.old r out.new result }
 {
     let q = number_field(s, at, u64::MAX);
     let t = read::read_rest(s, q.at);
@@ -121,7 +121,7 @@ fn taken(
     out: &mut [u8],
     r: Put,
 ) -> Put
-    ensures { Says (readx_in (length b.old) n (before m x z p) (drop at s.now))
+    ensures { Says (readx_in (length b.old) n (mem_of m x.old z.old p.now) (drop at s.now))
         out.old r out.new result }
 {
     let q = number_field(s, at, u64::MAX);
@@ -144,7 +144,7 @@ pub(crate) fn read_bytes(
     out: &mut [u8],
     r: Put,
 ) -> Put
-    ensures { Says (readx_in most_text n (before m x z p) (drop at s.now)) out.old r out.new result }
+    ensures { Says (readx_in most_text n (mem_of m x.old z.old p.now) (drop at s.now)) out.old r out.new result }
 {
     let mut b = [0u8; TEXT];
     taken(s, at, n, m, x, z, p, &mut b, out, r)

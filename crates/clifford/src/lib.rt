@@ -4,8 +4,7 @@
 
 ghost use Rattle.std.specs.Prelude.{◌≡◌, ◌≤◌, ◌<◌};
 ghost use Rattle.encoding.specs.Limits.{max_qubits, max_rows};
-ghost use Rattle.encoding.specs.Set.{rows_of, lay};
-ghost use Rattle.encoding.specs.Lent.{lent, before, after};
+ghost use Rattle.encoding.specs.Set.{rows_of, lay, mem_of};
 ghost use Rattle.gates.specs.Gates.{conj_row, conj_rows};
 ghost use Rattle.gates.specs.declared.Gate.TheVariants as gate;
 ghost use Rattle.clifford.specs.Calls.{large_qubit, one_qubit_gate, gate_fault, Conjugates};
@@ -40,8 +39,8 @@ fn one_qubit_twice(g: Gate) -> bool
 
 // The first line of the table, by rank, that fits a set and a gate, or 0.
 fn gate_fault(n: usize, m: usize, x: &[u64], z: &[u64], phases: &[u64], g: Gate) -> u8
-    ensures value { result ≡ gate_fault n (before m x z phases) g }
-    ensures none { result ≡ 0 → Ready n g (before m x z phases) }
+    ensures value { result ≡ gate_fault n (mem_of m x.now z.now phases.now) g }
+    ensures none { result ≡ 0 → Ready n g (mem_of m x.now z.now phases.now) }
 {
     let f = encoding::set_fault(n, m, x, z, phases);
     if f != 0 {
@@ -94,9 +93,9 @@ fn turn(
     by: Bits,
     sign: bool,
 )
-    requires { QubitReady n r.0 q.0 (lent m x z phases) }
-    ensures { Changed n r.0 (turned_by q.0 by.x by.z sign) (before m x z phases)
-        (after m x z phases) }
+    requires { QubitReady n r.0 q.0 (mem_of m x.old z.old phases.old) }
+    ensures { Changed n r.0 (turned_by q.0 by.x by.z sign) (mem_of m x.old z.old phases.old)
+        (mem_of m x.new z.new phases.new) }
 {
     let k = place(n, r.0, q.0);
     one_qubit::turn_bit(x, k, by.x);
@@ -114,9 +113,9 @@ fn h_row(
     r: RowNumber,
     q: QubitNumber,
 )
-    requires { RowReady n r.0 (gate.H q) (lent m x z phases) }
-    ensures { Changed n r.0 (conj_row n (gate.H q)) (before m x z phases)
-        (after m x z phases) }
+    requires { RowReady n r.0 (gate.H q) (mem_of m x.old z.old phases.old) }
+    ensures { Changed n r.0 (conj_row n (gate.H q)) (mem_of m x.old z.old phases.old)
+        (mem_of m x.new z.new phases.new) }
 {
     let b = read(n, x, z, r, q);
     let d = b.x ^ b.z;
@@ -133,9 +132,9 @@ fn s_row(
     r: RowNumber,
     q: QubitNumber,
 )
-    requires { RowReady n r.0 (gate.S q) (lent m x z phases) }
-    ensures { Changed n r.0 (conj_row n (gate.S q)) (before m x z phases)
-        (after m x z phases) }
+    requires { RowReady n r.0 (gate.S q) (mem_of m x.old z.old phases.old) }
+    ensures { Changed n r.0 (conj_row n (gate.S q)) (mem_of m x.old z.old phases.old)
+        (mem_of m x.new z.new phases.new) }
 {
     let b = read(n, x, z, r, q);
     turn(
@@ -165,9 +164,9 @@ fn turn_both(
     c: Bits,
     t: Bits,
 )
-    requires { RowReady n r.0 (gate.CX control target) (lent m x z phases) }
-    ensures { Changed n r.0 (turned_both control.0 target.0 c.x c.z t.x t.z) (before m x z phases)
-        (after m x z phases) }
+    requires { RowReady n r.0 (gate.CX control target) (mem_of m x.old z.old phases.old) }
+    ensures { Changed n r.0 (turned_both control.0 target.0 c.x c.z t.x t.z) (mem_of m x.old z.old phases.old)
+        (mem_of m x.new z.new phases.new) }
 {
     turn(
         n,
@@ -205,9 +204,9 @@ fn cx_row(
     control: QubitNumber,
     target: QubitNumber,
 )
-    requires { RowReady n r.0 (gate.CX control target) (lent m x z phases) }
-    ensures { Changed n r.0 (conj_row n (gate.CX control target)) (before m x z phases)
-        (after m x z phases) }
+    requires { RowReady n r.0 (gate.CX control target) (mem_of m x.old z.old phases.old) }
+    ensures { Changed n r.0 (conj_row n (gate.CX control target)) (mem_of m x.old z.old phases.old)
+        (mem_of m x.new z.new phases.new) }
 {
     let c = read(n, x, z, r, control);
     let t = read(n, x, z, r, target);
@@ -224,9 +223,9 @@ fn gate_row(
     r: RowNumber,
     g: Gate,
 )
-    requires { RowReady n r.0 g (lent m x z phases) }
-    ensures { Changed n r.0 (conj_row n g) (before m x z phases)
-        (after m x z phases) }
+    requires { RowReady n r.0 g (mem_of m x.old z.old phases.old) }
+    ensures { Changed n r.0 (conj_row n g) (mem_of m x.old z.old phases.old)
+        (mem_of m x.new z.new phases.new) }
 {
     match g {
         Gate::H(q) => h_row(n, m, x, z, phases, r, q),
@@ -237,9 +236,9 @@ fn gate_row(
 
 // The gate on every row.
 fn all_rows(n: usize, m: usize, x: &mut [u64], z: &mut [u64], phases: &mut [u64], g: Gate)
-    requires { Ready n g (lent m x z phases) }
-    ensures { after m x z phases
-        ≡ lay n m (conj_rows n g (rows_of n (before m x z phases))) }
+    requires { Ready n g (mem_of m x.old z.old phases.old) }
+    ensures { mem_of m x.new z.new phases.new
+        ≡ lay n m (conj_rows n g (rows_of n (mem_of m x.old z.old phases.old))) }
 {
     let mut r = 0;
     while r < m {
@@ -257,8 +256,8 @@ pub fn conj_clifford(
     phases: &mut [u64],
     gate: Gate,
 ) -> Answer
-    ensures { Conjugates n gate (before m x z phases)
-        (after m x z phases) result }
+    ensures { Conjugates n gate (mem_of m x.old z.old phases.old)
+        (mem_of m x.new z.new phases.new) result }
 {
     let f = gate_fault(n, m, x, z, phases, gate);
     if f != 0 {

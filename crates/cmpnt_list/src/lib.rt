@@ -8,8 +8,7 @@ ghost use Rattle.pauli.specs.declared.PauliMatrix.TheVariants.{I};
 ghost use Rattle.pauli.specs.Rows.{phase_of, commute, central, count_of, with_qubit};
 ghost use Rattle.encoding.specs.Limits.{max_qubits, max_rows, max_words, words_of};
 ghost use Rattle.encoding.specs.Words.{word, unpack};
-ghost use Rattle.encoding.specs.Set.{phase_units, exponent_at, rows_of, lay, Sound};
-ghost use Rattle.encoding.specs.Lent.{lent, before, after, bits_lent, bits_before, bits_after};
+ghost use Rattle.encoding.specs.Set.{phase_units, exponent_at, rows_of, lay, Sound, bare, mem_of};
 ghost use Rattle.encoding.specs.Refusals.{set_lines, out_lines, state_lines};
 ghost use Rattle.encoding.specs.Ranks.{by_rank, joined};
 ghost use Rattle.products.specs.Leaves.{SameLength, ProductAt};
@@ -64,9 +63,9 @@ fn row_span(r: usize, n: usize, m: usize) -> Span
 
 // The Pauli at qubit q of row r.
 fn read_qubit(n: usize, m: usize, x: &[u64], z: &[u64], r: RowNumber, q: QubitNumber) -> PauliMatrix
-    requires sound { Sound n (bits_lent m x z) }
+    requires sound { Sound n (bare m x.now z.now) }
     requires r_lt_m { (r.0 < m) × (q.0 < n) }
-    ensures { result ≡ get_or (rows_of n (bits_before m x z) r.0).ps q.0 I }
+    ensures { result ≡ get_or (rows_of n (bare m x.now z.now) r.0).ps q.0 I }
 {
     let s = row_span(r.0, n, m);
     let a = s.0;
@@ -84,7 +83,7 @@ pub fn get_qubit(
     row: RowNumber,
     qubit: QubitNumber,
 ) -> Got
-    ensures { result ≡ get_qubit n (before m x z phases) row.0 qubit.0 }
+    ensures { result ≡ get_qubit n (mem_of m x.now z.now phases.now) row.0 qubit.0 }
 {
     let a = m <= row.0;
     let b = n <= qubit.0;
@@ -105,9 +104,9 @@ fn write_qubit(
     q: QubitNumber,
     pauli: PauliMatrix,
 )
-    requires sound { Sound n (bits_lent m x z) }
+    requires sound { Sound n (bare m x.old z.old) }
     requires r_lt_m { (r.0 < m) × (q.0 < n) }
-    ensures { bits_after m x z ≡ lay n m (with_qubit (rows_of n (bits_before m x z)) r.0 q.0 pauli) }
+    ensures { bare m x.new z.new ≡ lay n m (with_qubit (rows_of n (bare m x.old z.old)) r.0 q.0 pauli) }
 {
     let s = row_span(r.0, n, m);
     let a = s.0;
@@ -126,7 +125,7 @@ pub fn set_qubit(
     qubit: QubitNumber,
     pauli: PauliMatrix,
 ) -> Answer
-    ensures { SetQubit n (before m x z phases) row.0 qubit.0 pauli (after m x z phases) result }
+    ensures { SetQubit n (mem_of m x.old z.old phases.now) row.0 qubit.0 pauli (mem_of m x.new z.new phases.now) result }
 {
     let a = m <= row.0;
     let b = n <= qubit.0;
@@ -188,9 +187,9 @@ fn from_masks(p: PauliMatrix, n: usize, k: u64) -> u64
 
 // The number of qubits of row r that hold the Pauli.
 fn count_in(n: usize, m: usize, x: &[u64], z: &[u64], r: usize, pauli: PauliMatrix) -> u64
-    requires sound { Sound n (bits_lent m x z) }
+    requires sound { Sound n (bare m x.now z.now) }
     requires r_lt_m { r < m }
-    ensures { result ≡ count_of n pauli (rows_of n (bits_before m x z) r) }
+    ensures { result ≡ count_of n pauli (rows_of n (bare m x.now z.now) r) }
 {
     let s = row_span(r, n, m);
     let a = s.0;
@@ -209,7 +208,7 @@ pub fn count(
     row: RowNumber,
     pauli: PauliMatrix,
 ) -> Tally
-    ensures { result ≡ count_in n (before m x z phases) row.0 pauli }
+    ensures { result ≡ count_in n (mem_of m x.now z.now phases.now) row.0 pauli }
 {
     let f = encoding::row_fault(n, m, x, z, phases, m <= row.0);
     if f != 0 {
@@ -220,9 +219,9 @@ pub fn count(
 
 // The exponent of the product of rows a and b.
 fn phase_rows(n: usize, m: usize, x: &[u64], z: &[u64], a: usize, b: usize) -> ComplexSign
-    requires sound { Sound n (bits_lent m x z) }
+    requires sound { Sound n (bare m x.now z.now) }
     requires a_lt_m { (a < m) × (b < m) }
-    ensures { result.0 ≡ phase_of n (rows_of n (bits_before m x z) a) (rows_of n (bits_before m x z) b) }
+    ensures { result.0 ≡ phase_of n (rows_of n (bare m x.now z.now) a) (rows_of n (bare m x.now z.now) b) }
 {
     let s = row_span(a, n, m);
     let t = row_span(b, n, m);
@@ -244,7 +243,7 @@ pub fn phase_of_mul(
     a: RowNumber,
     b: RowNumber,
 ) -> Phase
-    ensures { result ≡ phase_of_mul n (before m x z phases) a.0 b.0 }
+    ensures { result ≡ phase_of_mul n (mem_of m x.now z.now phases.now) a.0 b.0 }
 {
     let i = m <= a.0;
     let j = m <= b.0;
@@ -265,9 +264,9 @@ fn phase_rows_by_table(
     a: usize,
     b: usize,
 ) -> ComplexSign
-    requires sound { Sound n (lent m x z phases) }
+    requires sound { Sound n (mem_of m x.now z.now phases.now) }
     requires a_lt_m { (a < m) × (b < m) }
-    ensures { result.0 ≡ phase_of n (rows_of n (before m x z phases) a) (rows_of n (before m x z phases) b) }
+    ensures { result.0 ≡ phase_of n (rows_of n (mem_of m x.now z.now phases.now) a) (rows_of n (mem_of m x.now z.now phases.now) b) }
 {
     let s = row_span(a, n, m);
     let t = row_span(b, n, m);
@@ -288,7 +287,7 @@ pub fn phase_of_mul_by_table(
     a: RowNumber,
     b: RowNumber,
 ) -> Phase
-    ensures { result ≡ phase_of_mul n (before m x z phases) a.0 b.0 }
+    ensures { result ≡ phase_of_mul n (mem_of m x.now z.now phases.now) a.0 b.0 }
 {
     let i = m <= a.0;
     let j = m <= b.0;
@@ -301,9 +300,9 @@ pub fn phase_of_mul_by_table(
 
 // Whether rows a and b commute.
 fn commute_rows(n: usize, m: usize, x: &[u64], z: &[u64], a: usize, b: usize) -> bool
-    requires sound { Sound n (bits_lent m x z) }
+    requires sound { Sound n (bare m x.now z.now) }
     requires a_lt_m { (a < m) × (b < m) }
-    ensures { result ≡ commute n (rows_of n (bits_before m x z) a) (rows_of n (bits_before m x z) b) }
+    ensures { result ≡ commute n (rows_of n (bare m x.now z.now) a) (rows_of n (bare m x.now z.now) b) }
 {
     let s = row_span(a, n, m);
     let t = row_span(b, n, m);
@@ -324,7 +323,7 @@ pub fn commutes_with(
     a: RowNumber,
     b: RowNumber,
 ) -> Truth
-    ensures { result ≡ commutes_with n (before m x z phases) a.0 b.0 }
+    ensures { result ≡ commutes_with n (mem_of m x.now z.now phases.now) a.0 b.0 }
 {
     let i = m <= a.0;
     let j = m <= b.0;
@@ -337,9 +336,9 @@ pub fn commutes_with(
 
 // Whether row r commutes with every row.
 fn central_row(n: usize, m: usize, x: &[u64], z: &[u64], r: usize) -> bool
-    requires sound { Sound n (bits_lent m x z) }
+    requires sound { Sound n (bare m x.now z.now) }
     requires r_lt_m { r < m }
-    ensures { result ≡ central n m (rows_of n (bits_before m x z)) r }
+    ensures { result ≡ central n m (rows_of n (bare m x.now z.now)) r }
 {
     let mut k = 0;
     while k < m {
@@ -360,7 +359,7 @@ pub fn belongs_to_centralizer(
     phases: &[u64],
     row: RowNumber,
 ) -> Truth
-    ensures { result ≡ belongs_to_centralizer n (before m x z phases) row.0 }
+    ensures { result ≡ belongs_to_centralizer n (mem_of m x.now z.now phases.now) row.0 }
 {
     let f = encoding::row_fault(n, m, x, z, phases, m <= row.0);
     if f != 0 {
@@ -389,8 +388,8 @@ fn square_fault(m: usize, size: usize) -> u8
 
 // The same of a set that is read and the matrix of its rows.
 fn matrix_fault(n: usize, m: usize, x: &[u64], z: &[u64], phases: &[u64], size: usize) -> u8
-    ensures value { result ≡ matrix_fault n (before m x z phases) size }
-    ensures none { result ≡ 0 → AskedMatrix n (before m x z phases) size }
+    ensures value { result ≡ matrix_fault n (mem_of m x.now z.now phases.now) size }
+    ensures none { result ≡ 0 → AskedMatrix n (mem_of m x.now z.now phases.now) size }
 {
     encoding::smaller(
         encoding::set_fault(n, m, x, z, phases),
@@ -400,9 +399,9 @@ fn matrix_fault(n: usize, m: usize, x: &[u64], z: &[u64], phases: &[u64], size: 
 
 // The matrix of a set's rows.
 fn fill_matrix(n: usize, m: usize, x: &[u64], z: &[u64], out: &mut [u64])
-    requires sound { Sound n (bits_lent m x z) }
+    requires sound { Sound n (bare m x.now z.now) }
     requires out_len { length out.old ≡ m * words_of m }
-    ensures { out.new ≡ laid_matrix m (commuting n (bits_before m x z)) }
+    ensures { out.new ≡ laid_matrix m (commuting n (bare m x.now z.now)) }
 {
     let w = encoding::words(n);
     matrix::fill(x, z, w, m, out);
@@ -417,7 +416,7 @@ pub fn compatibility_matrix(
     phases: &[u64],
     out: &mut [u64],
 ) -> Answer
-    ensures { CompatibilityMatrix n (before m x z phases) out.old out.new result }
+    ensures { CompatibilityMatrix n (mem_of m x.now z.now phases.now) out.old out.new result }
 {
     let f = matrix_fault(n, m, x, z, phases, out.len());
     if f != 0 {
@@ -438,8 +437,8 @@ fn both_fault(
     rz: &[u64],
     rp: &[u64],
 ) -> u8
-    ensures value { result ≡ by_rank (joined (set_lines n (before m lx lz lp)) (set_lines n (before m rx rz rp))) }
-    ensures none { result ≡ 0 → BothReady n (before m lx lz lp) (before m rx rz rp) }
+    ensures value { result ≡ by_rank (joined (set_lines n (mem_of m lx.now lz.now lp.now)) (set_lines n (mem_of m rx.now rz.now rp.now))) }
+    ensures none { result ≡ 0 → BothReady n (mem_of m lx.now lz.now lp.now) (mem_of m rx.now rz.now rp.now) }
 {
     encoding::smaller(
         encoding::set_fault(n, m, lx, lz, lp),
@@ -449,8 +448,8 @@ fn both_fault(
 
 // The first number that fits q lent numbers and a third set that is written, both of m rows, or 0.
 fn third_fault(n: usize, m: usize, q: usize, ox: &[u64], oz: &[u64], op: &[u64]) -> u8
-    ensures value { result ≡ by_rank (joined (clash_lines m q) (out_lines n (before m ox oz op))) }
-    ensures none { result ≡ 0 → ThirdReady n q (before m ox oz op) }
+    ensures value { result ≡ by_rank (joined (clash_lines m q) (out_lines n (mem_of m ox.now oz.now op.now))) }
+    ensures none { result ≡ 0 → ThirdReady n q (mem_of m ox.now oz.now op.now) }
 {
     encoding::smaller(
         encoding::pick(q != m, 3, 0),
@@ -519,10 +518,10 @@ fn mul_word(
     oz: &mut [u64],
     clashes: &mut [u16],
 ) -> u64
-    requires both_ready { BothReady n (lent m lx lz lp) (lent m rx rz rp) }
-    requires j_bound { (j < phase_units m) × Written n (lent m lx lz lp) (lent m rx rz rp) (j * 32) ox.old oz.old clashes.old }
-    ensures phases_of { PhasesOf n (before m lx lz lp) (before m rx rz rp) j m result }
-    ensures rows { Written n (before m lx lz lp) (before m rx rz rp) (word_end m j)
+    requires both_ready { BothReady n (mem_of m lx.now lz.now lp.now) (mem_of m rx.now rz.now rp.now) }
+    requires j_bound { (j < phase_units m) × Written n (mem_of m lx.now lz.now lp.now) (mem_of m rx.now rz.now rp.now) (j * 32) ox.old oz.old clashes.old }
+    ensures phases_of { PhasesOf n (mem_of m lx.now lz.now lp.now) (mem_of m rx.now rz.now rp.now) j m result }
+    ensures rows { Written n (mem_of m lx.now lz.now lp.now) (mem_of m rx.now rz.now rp.now) (word_end m j)
         ox.new oz.new clashes.new }
 {
     let end = rows_end(j, m);
@@ -556,10 +555,10 @@ fn mul_rows(
     op: &mut [u64],
     clashes: &mut [u16],
 )
-    requires both_ready { BothReady n (lent m lx lz lp) (lent m rx rz rp) }
-    requires third_ready { ThirdReady n (length clashes.old) (lent m ox oz op) }
-    ensures { (after m ox oz op ≡ lay n m (pair_rows n (before m lx lz lp) (before m rx rz rp))) ×
-        (clashes.new ≡ pair_numbers n (before m lx lz lp) (before m rx rz rp)) }
+    requires both_ready { BothReady n (mem_of m lx.now lz.now lp.now) (mem_of m rx.now rz.now rp.now) }
+    requires third_ready { ThirdReady n (length clashes.old) (mem_of m ox.old oz.old op.old) }
+    ensures { (mem_of m ox.new oz.new op.new ≡ lay n m (pair_rows n (mem_of m lx.now lz.now lp.now) (mem_of m rx.now rz.now rp.now))) ×
+        (clashes.new ≡ pair_numbers n (mem_of m lx.now lz.now lp.now) (mem_of m rx.now rz.now rp.now)) }
 {
     let mut j = 0;
     while j < op.len() {
@@ -584,7 +583,7 @@ pub fn cmpnts_mul_pairwise(
     op: &mut [u64],
     clashes: &mut [u16],
 ) -> Answer
-    ensures { MulPairwise n (before m lx lz lp) (before m rx rz rp) (before m ox oz op) (after m ox oz op) clashes.old
+    ensures { MulPairwise n (mem_of m lx.now lz.now lp.now) (mem_of m rx.now rz.now rp.now) (mem_of m ox.old oz.old op.old) (mem_of m ox.new oz.new op.new) clashes.old
         clashes.new result }
 {
     let f = encoding::smaller(
@@ -600,9 +599,9 @@ pub fn cmpnts_mul_pairwise(
 
 // Row r acts on a basis state.
 fn act_on(n: usize, m: usize, x: &[u64], z: &[u64], r: usize, state: &mut [u64]) -> ComplexSign
-    requires sound { Sound n (bits_lent m x z) }
+    requires sound { Sound n (bare m x.now z.now) }
     requires r_lt_m { (r < m) × (by_rank (state_lines n state.old) ≡ 0) }
-    ensures { StateActed n (rows_of n (bits_before m x z) r) state.old state.new result.0 }
+    ensures { StateActed n (rows_of n (bare m x.now z.now) r) state.old state.new result.0 }
 {
     let s = row_span(r, n, m);
     let a = s.0;
@@ -620,7 +619,7 @@ pub fn imul_state(
     row: RowNumber,
     state: &mut [u64],
 ) -> Phase
-    ensures { ImulState n (before m x z phases) row.0 state.old state.new result }
+    ensures { ImulState n (mem_of m x.now z.now phases.now) row.0 state.old state.new result }
 {
     let f = encoding::smaller(
         encoding::row_fault(n, m, x, z, phases, m <= row.0),

@@ -6,8 +6,7 @@ ghost use Rattle.std.specs.Prelude.{◌≡◌, Bool, cond, not, ◌||◌, ◌&&�
 ghost use Rattle.pauli.specs.Pauli.{of_bits, has_x, has_z};
 ghost use Rattle.encoding.specs.Limits.{max_qubits, max_rows, max_words, words_of};
 ghost use Rattle.encoding.specs.Words.{odd, bit_at, with_bit, word, unpack};
-ghost use Rattle.encoding.specs.Set.{phase_units, exponent_at, with_in, with_exponent, Valid, QubitSet};
-ghost use Rattle.encoding.specs.Lent.{before};
+ghost use Rattle.encoding.specs.Set.{phase_units, exponent_at, with_in, with_exponent, Valid, QubitSet, mem_of};
 ghost use Rattle.pauli.specs.declared.PauliMatrix.TheVariants.{I};
 ghost use Rattle.encoding.specs.Refusals.{least, some, is_on, bad_lengths, bad_bits, bad_phases, set_lines, read_lines, Readable, out_lines, state_lines};
 ghost use Rattle.encoding.specs.Ranks.{by_rank};
@@ -157,8 +156,8 @@ pub fn smaller(a: u8, b: u8) -> u8
 
 // The first number of the table that fits a set that is read, or 0; then it is a row set.
 pub fn set_fault(n: usize, m: usize, x: &[u64], z: &[u64], p: &[u64]) -> u8
-    ensures value { result ≡ by_rank (set_lines n (before m x z p)) }
-    ensures valid { result ≡ 0 → Valid n (words_of n) (before m x z p) }
+    ensures value { result ≡ by_rank (set_lines n (mem_of m x.now z.now p.now)) }
+    ensures valid { result ≡ 0 → Valid n (words_of n) (mem_of m x.now z.now p.now) }
 {
     if MAX_QUBITS < n {
         return 1;
@@ -175,15 +174,15 @@ pub fn set_fault(n: usize, m: usize, x: &[u64], z: &[u64], p: &[u64]) -> u8
 
 // The same of a set that is read and of its call's numbers; large says that one of them is too large.
 pub fn row_fault(n: usize, m: usize, x: &[u64], z: &[u64], p: &[u64], large: bool) -> u8
-    ensures value { result ≡ by_rank (read_lines n (before m x z p) large) }
-    ensures readable { result ≡ 0 → Readable n (before m x z p) large }
+    ensures value { result ≡ by_rank (read_lines n (mem_of m x.now z.now p.now) large) }
+    ensures readable { result ≡ 0 → Readable n (mem_of m x.now z.now p.now) large }
 {
     smaller(set_fault(n, m, x, z, p), pick(large, 6, 0))
 }
 
 // The first number of the table that fits a set that is written only, or 0.
 pub fn out_fault(n: usize, m: usize, x: &[u64], z: &[u64], p: &[u64]) -> u8
-    ensures { result ≡ by_rank (out_lines n (before m x z p)) }
+    ensures { result ≡ by_rank (out_lines n (mem_of m x.now z.now p.now)) }
 {
     if MAX_QUBITS < n {
         return 1;

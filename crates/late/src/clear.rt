@@ -1,7 +1,7 @@
 // A column cleared late: rows with the bit set come to owe the pivot, and the entries are logged.
+ghost use Rattle.encoding.specs.Set.{mem_of};
 ghost use Rattle.std.specs.Prelude.{◌≡◌, cond, ◌++◌, ◌+◌, ◌-◌, ◌^◌, ◌≤◌, ◌<◌, length, drop};
 ghost use Rattle.pauli.specs.Row.{mul_row, bit_row};
-ghost use Rattle.encoding.specs.Lent.{lent, before, after};
 ghost use Rattle.reduction.specs.Log.{capacity};
 ghost use Rattle.reduction.specs.Workers.{through, turn_c, first_place, Below};
 ghost use Rattle.tabled.specs.Workers.{Clearing};
@@ -120,12 +120,12 @@ fn turn(
     pivot: u16,
     k: u16,
 ) -> Late
-    requires turn_in { TurnIn n c pivot h (store (lent m x z p) (lent table_rows tx tz tp) owed.old log.old s) }
-    requires sees { Sees n c w j i (lent m x z p) (lent table_rows tx tz tp) b.now tb.now × (k < m) }
+    requires turn_in { TurnIn n c pivot h (store (mem_of m x.now z.now p.now) (mem_of table_rows tx.now tz.now tp.now) owed.old log.old s) }
+    requires sees { Sees n c w j i (mem_of m x.now z.now p.now) (mem_of table_rows tx.now tz.now tp.now) b.now tb.now × (k < m) }
     ensures { Runs n (Clearing (bit_row n) (mul_row n) c pivot (s.g - 1))
         (turn_c (bit_row n) (mul_row n) (capacity log.old) c pivot k)
-        (store (before m x z p) (before table_rows tx tz tp) owed.old log.old s)
-        (store (before m x z p) (before table_rows tx tz tp) owed.new log.new result) }
+        (store (mem_of m x.now z.now p.now) (mem_of table_rows tx.now tz.now tp.now) owed.old log.old s)
+        (store (mem_of m x.now z.now p.now) (mem_of table_rows tx.now tz.now tp.now) owed.new log.new result) }
 {
     if k == pivot {
         return s;
@@ -171,12 +171,12 @@ fn clear(
     c: usize,
     pivot: u16,
 ) -> Late
-    requires turn_in { TurnIn n c pivot h (store (lent m x z p) (lent table_rows tx tz tp) owed.old log.old s) }
-    requires sees { Sees n c w j i (lent m x z p) (lent table_rows tx tz tp) b.now tb.now × Below m list.now }
+    requires turn_in { TurnIn n c pivot h (store (mem_of m x.now z.now p.now) (mem_of table_rows tx.now tz.now tp.now) owed.old log.old s) }
+    requires sees { Sees n c w j i (mem_of m x.now z.now p.now) (mem_of table_rows tx.now tz.now tp.now) b.now tb.now × Below m list.now }
     ensures { Runs n (Clearing (bit_row n) (mul_row n) c pivot (s.g - 1))
         (through (turn_c (bit_row n) (mul_row n) (capacity log.old) c pivot) list.now)
-        (store (before m x z p) (before table_rows tx tz tp) owed.old log.old s)
-        (store (before m x z p) (before table_rows tx tz tp) owed.new log.new result) }
+        (store (mem_of m x.now z.now p.now) (mem_of table_rows tx.now tz.now tp.now) owed.old log.old s)
+        (store (mem_of m x.now z.now p.now) (mem_of table_rows tx.now tz.now tp.now) owed.new log.new result) }
 {
     let mut r = s;
     let mut a = 0;
@@ -216,12 +216,12 @@ fn clear_both(
     c: usize,
     pivot: u16,
 ) -> Late
-    requires turn_in { TurnIn n c pivot h (store (lent m x z p) (lent table_rows tx tz tp) owed.old log.old s) }
-    requires sees { Sees n c w j i (lent m x z p) (lent table_rows tx tz tp) b.now tb.now × Below m listed.now × Below m extra.now }
+    requires turn_in { TurnIn n c pivot h (store (mem_of m x.now z.now p.now) (mem_of table_rows tx.now tz.now tp.now) owed.old log.old s) }
+    requires sees { Sees n c w j i (mem_of m x.now z.now p.now) (mem_of table_rows tx.now tz.now tp.now) b.now tb.now × Below m listed.now × Below m extra.now }
     ensures { Runs n (Clearing (bit_row n) (mul_row n) c pivot (s.g - 1))
         (through (turn_c (bit_row n) (mul_row n) (capacity log.old) c pivot) (listed.now ++ extra.now))
-        (store (before m x z p) (before table_rows tx tz tp) owed.old log.old s)
-        (store (before m x z p) (before table_rows tx tz tp) owed.new log.new result) }
+        (store (mem_of m x.now z.now p.now) (mem_of table_rows tx.now tz.now tp.now) owed.old log.old s)
+        (store (mem_of m x.now z.now p.now) (mem_of table_rows tx.now tz.now tp.now) owed.new log.new result) }
 {
     let r = clear(
         n, m, x, z, p, owed, tx, tz, tp, log, b, tb, listed, w, j, i, s, h, c, pivot,
@@ -253,12 +253,12 @@ fn clear_column(
     c: usize,
     pivot: u16,
 ) -> Late
-    requires turn_in { TurnIn n c pivot h (store (lent m x z p) (lent table_rows tx tz tp) owed.old log.old s) }
+    requires turn_in { TurnIn n c pivot h (store (mem_of m x.now z.now p.now) (mem_of table_rows tx.now tz.now tp.now) owed.old log.old s) }
     requires below { Below m listed.now × Below m extra.now }
     ensures { Runs n (Clearing (bit_row n) (mul_row n) c pivot (s.g - 1))
         (through (turn_c (bit_row n) (mul_row n) (capacity log.old) c pivot) (listed.now ++ extra.now))
-        (store (before m x z p) (before table_rows tx tz tp) owed.old log.old s)
-        (store (before m x z p) (before table_rows tx tz tp) owed.new log.new result) }
+        (store (mem_of m x.now z.now p.now) (mem_of table_rows tx.now tz.now tp.now) owed.old log.old s)
+        (store (mem_of m x.now z.now p.now) (mem_of table_rows tx.now tz.now tp.now) owed.new log.new result) }
 {
     let w = encoding::words(n);
     if c < n {
@@ -331,12 +331,12 @@ pub(crate) fn freeze(
     c: usize,
     pivot: u16,
 ) -> Late
-    requires freeze_in { FreezeIn n c pivot o (store (lent m x z p) (lent table_rows tx tz tp) owed.old log.old s) }
+    requires freeze_in { FreezeIn n c pivot o (store (mem_of m x.now z.now p.now) (mem_of table_rows tx.old tz.old tp.old) owed.old log.old s) }
     requires below { Below m listed.now × Below m extra.now }
     ensures { Runs n (Clearing (bit_row n) (mul_row n) c pivot s.g)
         (through (turn_c (bit_row n) (mul_row n) (capacity log.old) c pivot) (listed.now ++ extra.now))
-        (store (before m x z p) (before table_rows tx tz tp) owed.old log.old s)
-        (store (before m x z p) (after table_rows tx tz tp) owed.new log.new result) }
+        (store (mem_of m x.now z.now p.now) (mem_of table_rows tx.old tz.old tp.old) owed.old log.old s)
+        (store (mem_of m x.now z.now p.now) (mem_of table_rows tx.new tz.new tp.new) owed.new log.new result) }
 {
     let e = s.entries;
     let t = s.t;

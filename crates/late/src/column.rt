@@ -1,7 +1,7 @@
 // A pivot and a column done late; the columns of the order, in blocks.
+ghost use Rattle.encoding.specs.Set.{mem_of};
 ghost use Rattle.std.specs.Prelude.{◌≡◌, ◌++◌, ◌+◌, ◌^◌, ◌≤◌, ◌<◌, length};
 ghost use Rattle.pauli.specs.Row.{mul_row, bit_row};
-ghost use Rattle.encoding.specs.Lent.{lent, before, after};
 ghost use Rattle.reduction.specs.Log.{capacity};
 ghost use Rattle.reduction.specs.Workers.{through, pivot_c, column_c, Below};
 ghost use Rattle.tabled.specs.Workers.{Clearing, Within};
@@ -40,12 +40,12 @@ fn pivot_by(
     pivot: u16,
     found: u16,
 ) -> Late
-    requires pivot_in { PivotIn n c pivot found o (store (lent m x z p) (lent table_rows tx tz tp) owed.old log.old s) }
+    requires pivot_in { PivotIn n c pivot found o (store (mem_of m x.old z.old p.old) (mem_of table_rows tx.old tz.old tp.old) owed.old log.old s) }
     requires below { Below m listed.now × Below m extra.now }
     ensures { Runs n (Clearing (bit_row n) (mul_row n) c pivot s.g)
         (pivot_c (bit_row n) (mul_row n) (capacity log.old) (listed.now ++ extra.now) c pivot found)
-        (store (before m x z p) (before table_rows tx tz tp) owed.old log.old s)
-        (store (after m x z p) (after table_rows tx tz tp) owed.new log.new result) }
+        (store (mem_of m x.old z.old p.old) (mem_of table_rows tx.old tz.old tp.old) owed.old log.old s)
+        (store (mem_of m x.new z.new p.new) (mem_of table_rows tx.new tz.new tp.new) owed.new log.new result) }
 {
     let r = lead(n, m, x, z, p, owed, tx, tz, tp, log, s, c, pivot, found);
     if r.full {
@@ -71,8 +71,8 @@ fn find_column(
     t: usize,
     c: usize,
 ) -> usize
-    requires { SearchIn n c t (lent m x z p) owed.now (lent table_rows tx tz tp) listed.now }
-    ensures { Found n c t (before m x z p) owed.now (before table_rows tx tz tp) listed.now result }
+    requires { SearchIn n c t (mem_of m x.now z.now p.now) owed.now (mem_of table_rows tx.now tz.now tp.now) listed.now }
+    ensures { Found n c t (mem_of m x.now z.now p.now) owed.now (mem_of table_rows tx.now tz.now tp.now) listed.now result }
 {
     let w = encoding::words(n);
     if c < n {
@@ -100,13 +100,13 @@ fn column(
     o: u8,
     c: usize,
 ) -> Late
-    requires column_in { ColumnIn n c o listed.now (store (lent m x z p) (lent table_rows tx tz tp) owed.old log.old s) }
+    requires column_in { ColumnIn n c o listed.now (store (mem_of m x.old z.old p.old) (mem_of table_rows tx.old tz.old tp.old) owed.old log.old s) }
     requires below { Below m listed.now × Below m extra.now }
     ensures t_in_bounds { result.t ≤ length listed.now }
     ensures runs { Runs n (Within block_pivots)
         (column_c (bit_row n) (mul_row n) (capacity log.old) listed.now extra.now c)
-        (store (before m x z p) (before table_rows tx tz tp) owed.old log.old s)
-        (store (after m x z p) (after table_rows tx tz tp) owed.new log.new result) }
+        (store (mem_of m x.old z.old p.old) (mem_of table_rows tx.old tz.old tp.old) owed.old log.old s)
+        (store (mem_of m x.new z.new p.new) (mem_of table_rows tx.new tz.new tp.new) owed.new log.new result) }
 {
     let t = s.t;
     let f = find_column(n, m, x, z, p, owed, tx, tz, tp, listed, t, c);
@@ -147,8 +147,8 @@ fn begin(
     tp: &[u64],
     s: Late,
 ) -> Late
-    requires { BeginIn n (lent m x z p) owed.old (lent table_rows tx tz tp) s }
-    ensures { Began n (before table_rows tx tz tp) (before m x z p) owed.old s (after m x z p) owed.new result }
+    requires { BeginIn n (mem_of m x.old z.old p.old) owed.old (mem_of table_rows tx.now tz.now tp.now) s }
+    ensures { Began n (mem_of table_rows tx.now tz.now tp.now) (mem_of m x.old z.old p.old) owed.old s (mem_of m x.new z.new p.new) owed.new result }
 {
     let e = s.entries;
     let t = s.t;
@@ -181,13 +181,13 @@ fn step(
     s: Late,
     c: usize,
 ) -> Late
-    requires step_in { StepIn n c listed.now (store (lent m x z p) (lent table_rows tx tz tp) owed.old log.old s) }
+    requires step_in { StepIn n c listed.now (store (mem_of m x.old z.old p.old) (mem_of table_rows tx.old tz.old tp.old) owed.old log.old s) }
     requires below { Below m listed.now × Below m extra.now }
     ensures t_in_bounds { result.t ≤ length listed.now }
     ensures runs { Runs n (Within block_pivots)
         (column_c (bit_row n) (mul_row n) (capacity log.old) listed.now extra.now c)
-        (store (before m x z p) (before table_rows tx tz tp) owed.old log.old s)
-        (store (after m x z p) (after table_rows tx tz tp) owed.new log.new result) }
+        (store (mem_of m x.old z.old p.old) (mem_of table_rows tx.old tz.old tp.old) owed.old log.old s)
+        (store (mem_of m x.new z.new p.new) (mem_of table_rows tx.new tz.new tp.new) owed.new log.new result) }
 {
     let r = begin(n, m, x, z, p, owed, tx, tz, tp, s);
     let o = power(r.g);
@@ -210,12 +210,12 @@ fn columns(
     listed: &[u16],
     extra: &[u16],
 ) -> Late
-    requires start_in { StartIn n (lent m x z p) owed.old (lent table_rows tx tz tp) }
+    requires start_in { StartIn n (mem_of m x.old z.old p.old) owed.old (mem_of table_rows tx.old tz.old tp.old) }
     requires below { Below (n + n) order.now × Below m listed.now × Below m extra.now }
     ensures { Runs n (Within block_pivots)
         (through (column_c (bit_row n) (mul_row n) (capacity log.old) listed.now extra.now) order.now)
-        (store (before m x z p) (before table_rows tx tz tp) owed.old log.old begun)
-        (store (after m x z p) (after table_rows tx tz tp) owed.new log.new result) }
+        (store (mem_of m x.old z.old p.old) (mem_of table_rows tx.old tz.old tp.old) owed.old log.old begun)
+        (store (mem_of m x.new z.new p.new) (mem_of table_rows tx.new tz.new tp.new) owed.new log.new result) }
 {
     let mut r = Late {
         full: false,
@@ -251,11 +251,11 @@ pub(crate) fn reduce(
     listed: &[u16],
     extra: &[u16],
 ) -> Progress
-    requires start_in { StartIn n (lent m x z p) owed.old (lent table_rows tx tz tp) }
+    requires start_in { StartIn n (mem_of m x.old z.old p.old) owed.old (mem_of table_rows tx.old tz.old tp.old) }
     requires below { Below (n + n) order.now × Below m listed.now × Below m extra.now }
     ensures { Does n
         (through (column_c (bit_row n) (mul_row n) (capacity log.old) listed.now extra.now) order.now)
-        (before m x z p) log.old start (after m x z p) log.new result }
+        (mem_of m x.old z.old p.old) log.old start (mem_of m x.new z.new p.new) log.new result }
 {
     let r = columns(n, m, x, z, p, owed, tx, tz, tp, log, order, listed, extra);
     pay_all(n, m, x, z, p, owed, tx, tz, tp);

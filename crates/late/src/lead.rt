@@ -2,8 +2,7 @@
 ghost use Rattle.std.specs.Prelude.{◌≡◌, ◌+◌, ◌%◌, ◌<◌};
 ghost use Rattle.pauli.specs.Row.{mul_row, bit_row};
 ghost use Rattle.encoding.specs.Limits.{words_of};
-ghost use Rattle.encoding.specs.Set.{exponent_at, with_exponent};
-ghost use Rattle.encoding.specs.Lent.{lent, before, after};
+ghost use Rattle.encoding.specs.Set.{exponent_at, with_exponent, mem_of};
 ghost use Rattle.reduction.specs.Log.{capacity};
 ghost use Rattle.reduction.specs.Workers.{lead_c};
 ghost use Rattle.tabled.specs.Workers.{Led};
@@ -33,8 +32,8 @@ fn mul_rows(
     a: RowNumber,
     b: RowNumber,
 )
-    requires { RowsBy w a.0 a.0 b.0 (lent m x z p) (lent m x z p) }
-    ensures { RowBy w a.0 a.0 b.0 (before m x z p) (before m x z p) (after m x z p) }
+    requires { RowsBy w a.0 a.0 b.0 (mem_of m x.old z.old p.old) (mem_of m x.old z.old p.old) }
+    ensures { RowBy w a.0 a.0 b.0 (mem_of m x.old z.old p.old) (mem_of m x.old z.old p.old) (mem_of m x.new z.new p.new) }
 {
     let f = products::imul_op_op(x, z, a.0 * w, b.0 * w, w);
     add_exponent_of(p, a, b, f.phase);
@@ -52,8 +51,8 @@ fn put(
     a: u16,
     b: u16,
 ) -> Late
-    requires { PutIn n (lent m x z p) log.old s a b }
-    ensures { Puts n (before m x z p) log.old s a b (after m x z p) log.new result }
+    requires { PutIn n (mem_of m x.old z.old p.old) log.old s a b }
+    ensures { Puts n (mem_of m x.old z.old p.old) log.old s a b (mem_of m x.new z.new p.new) log.new result }
 {
     let e = s.entries;
     let t = s.t;
@@ -102,10 +101,10 @@ fn lead_by(
     pivot: u16,
     found: u16,
 ) -> Late
-    requires { LeadIn n pivot found (store (lent m x z p) (lent table_rows tx tz tp) owed.old log.old s) }
+    requires { LeadIn n pivot found (store (mem_of m x.old z.old p.old) (mem_of table_rows tx.now tz.now tp.now) owed.old log.old s) }
     ensures { Makes n (lead_by n (capacity log.old) pivot found)
-        (store (before m x z p) (before table_rows tx tz tp) owed.old log.old s)
-        (store (after m x z p) (before table_rows tx tz tp) owed.new log.new result) }
+        (store (mem_of m x.old z.old p.old) (mem_of table_rows tx.now tz.now tp.now) owed.old log.old s)
+        (store (mem_of m x.new z.new p.new) (mem_of table_rows tx.now tz.now tp.now) owed.new log.new result) }
 {
     pay(n, m, x, z, p, owed, tx, tz, tp, found as usize);
     put(n, m, x, z, p, log, s, pivot, found)
@@ -128,11 +127,11 @@ pub(crate) fn lead(
     pivot: u16,
     found: u16,
 ) -> Late
-    requires lead_in { LeadIn n pivot found (store (lent m x z p) (lent table_rows tx tz tp) owed.old log.old s) }
-    requires finds { Finds n c pivot found (store (lent m x z p) (lent table_rows tx tz tp) owed.old log.old s) }
+    requires lead_in { LeadIn n pivot found (store (mem_of m x.old z.old p.old) (mem_of table_rows tx.now tz.now tp.now) owed.old log.old s) }
+    requires finds { Finds n c pivot found (store (mem_of m x.old z.old p.old) (mem_of table_rows tx.now tz.now tp.now) owed.old log.old s) }
     ensures { Runs n (Led (bit_row n) (mul_row n) c pivot s.g) (lead_c (bit_row n) (mul_row n) (capacity log.old) pivot found)
-        (store (before m x z p) (before table_rows tx tz tp) owed.old log.old s)
-        (store (after m x z p) (before table_rows tx tz tp) owed.new log.new result) }
+        (store (mem_of m x.old z.old p.old) (mem_of table_rows tx.now tz.now tp.now) owed.old log.old s)
+        (store (mem_of m x.new z.new p.new) (mem_of table_rows tx.now tz.now tp.now) owed.new log.new result) }
 {
     pay(n, m, x, z, p, owed, tx, tz, tp, pivot as usize);
     if found == pivot {

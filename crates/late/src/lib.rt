@@ -2,9 +2,9 @@
 
 #![tactic(auto)]
 
+ghost use Rattle.encoding.specs.Set.{mem_of};
 ghost use Rattle.std.specs.Prelude.{◌≡◌, not, ◌||◌, ◌+◌};
 ghost use Rattle.pauli.specs.Row.{mul_row, bit_row};
-ghost use Rattle.encoding.specs.Lent.{lent, before, after};
 ghost use Rattle.encoding.specs.Refusals.{some, too_large};
 ghost use Rattle.reduction.specs.Log.{capacity};
 ghost use Rattle.reduction.specs.Workers.{through, column_c};
@@ -63,7 +63,7 @@ fn ready(
     listed: &[u16],
     extra: &[u16],
 ) -> bool
-    ensures { Told (ListsIn n order.now listed.now extra.now (before m x z p)) result }
+    ensures { Told (ListsIn n order.now listed.now extra.now (mem_of m x.now z.now p.now)) result }
 {
     if encoding::set_fault(n, m, x, z, p) != 0 {
         return false;
@@ -90,10 +90,10 @@ fn lend(
     listed: &[u16],
     extra: &[u16],
 ) -> Progress
-    requires { ListsIn n order.now listed.now extra.now (lent m x z p) × Blanks owed.old tx.old tz.old tp.old }
+    requires { ListsIn n order.now listed.now extra.now (mem_of m x.old z.old p.old) × Blanks owed.old tx.old tz.old tp.old }
     ensures { Does n
         (through (column_c (bit_row n) (mul_row n) (capacity log.old) listed.now extra.now) order.now)
-        (before m x z p) log.old start (after m x z p) log.new result }
+        (mem_of m x.old z.old p.old) log.old start (mem_of m x.new z.new p.new) log.new result }
 {
     let k = TABLE * encoding::words(n);
     reduce(
@@ -125,10 +125,10 @@ fn scratched(
     listed: &[u16],
     extra: &[u16],
 ) -> Progress
-    requires { ListsIn n order.now listed.now extra.now (lent m x z p) }
+    requires { ListsIn n order.now listed.now extra.now (mem_of m x.old z.old p.old) }
     ensures { Does n
         (through (column_c (bit_row n) (mul_row n) (capacity log.old) listed.now extra.now) order.now)
-        (before m x z p) log.old start (after m x z p) log.new result }
+        (mem_of m x.old z.old p.old) log.old start (mem_of m x.new z.new p.new) log.new result }
 {
     let mut owed = [0u8; MAX_ROWS];
     let mut tx = [0u64; TABLE_WORDS];
@@ -152,8 +152,8 @@ pub fn columns(
     listed: &[u16],
     extra: &[u16],
 ) -> Progress
-    ensures { Reduces n order.now listed.now extra.now (before m x z p) log.old
-        (after m x z p) log.new result }
+    ensures { Reduces n order.now listed.now extra.now (mem_of m x.old z.old p.old) log.old
+        (mem_of m x.new z.new p.new) log.new result }
 {
     if ready(n, m, x, z, p, order, listed, extra) {
         return scratched(n, m, x, z, p, log, order, listed, extra);

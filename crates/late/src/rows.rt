@@ -1,7 +1,6 @@
 // A row of a set multiplied by a row of another, and what stands on it: rows pay what they owe, the table is doubled.
 ghost use Rattle.std.specs.Prelude.{◌≡◌, ◌+◌, ◌*◌, ◌%◌, ◌≤◌, ◌<◌, length};
-ghost use Rattle.encoding.specs.Set.{exponent_at, with_exponent};
-ghost use Rattle.encoding.specs.Lent.{lent, before, after};
+ghost use Rattle.encoding.specs.Set.{exponent_at, with_exponent, mem_of};
 ghost use Rattle.late.specs.Workers.{RoomBy, MultipliedBy, RowsBy, RowBy, Copied, RowPut, Owing, Paid, PaidAll, DoubleIn, FillIn, Doubled, table_rows};
 
 use pauli::{ComplexSign, RowNumber};
@@ -67,8 +66,8 @@ fn mul_by(
     a: RowNumber,
     b: RowNumber,
 )
-    requires { RowsBy w d.0 a.0 b.0 (lent m x z p) (lent bm bx bz bp) }
-    ensures { RowBy w d.0 a.0 b.0 (before m x z p) (before bm bx bz bp) (after m x z p) }
+    requires { RowsBy w d.0 a.0 b.0 (mem_of m x.old z.old p.old) (mem_of bm bx.now bz.now bp.now) }
+    ensures { RowBy w d.0 a.0 b.0 (mem_of m x.old z.old p.old) (mem_of bm bx.now bz.now bp.now) (mem_of m x.new z.new p.new) }
 {
     let f = mul_into(x, z, bx, bz, d.0 * w, a.0 * w, b.0 * w, w);
     add_exponent(p, bp, d, a, b, f.phase);
@@ -87,8 +86,8 @@ pub(crate) fn pay(
     tp: &[u64],
     k: usize,
 )
-    requires { Owing n (lent m x z p) owed.old (lent table_rows tx tz tp) × (k < m) }
-    ensures { Paid n k (before m x z p) owed.old (before table_rows tx tz tp) (after m x z p) owed.new }
+    requires { Owing n (mem_of m x.old z.old p.old) owed.old (mem_of table_rows tx.now tz.now tp.now) × (k < m) }
+    ensures { Paid n k (mem_of m x.old z.old p.old) owed.old (mem_of table_rows tx.now tz.now tp.now) (mem_of m x.new z.new p.new) owed.new }
 {
     let o = owed[k] as usize;
     if o == 0 {
@@ -123,8 +122,8 @@ pub(crate) fn pay_all(
     tz: &[u64],
     tp: &[u64],
 )
-    requires { Owing n (lent m x z p) owed.old (lent table_rows tx tz tp) }
-    ensures { PaidAll n (before m x z p) owed.old (before table_rows tx tz tp) (after m x z p) owed.new }
+    requires { Owing n (mem_of m x.old z.old p.old) owed.old (mem_of table_rows tx.now tz.now tp.now) }
+    ensures { PaidAll n (mem_of m x.old z.old p.old) owed.old (mem_of table_rows tx.now tz.now tp.now) (mem_of m x.new z.new p.new) owed.new }
 {
     let mut k = 0;
     while k < m {
@@ -159,8 +158,8 @@ fn put_row(
     d: RowNumber,
     b: RowNumber,
 )
-    requires { RowsBy w d.0 d.0 b.0 (lent m x z p) (lent bm bx bz bp) }
-    ensures { RowPut w d.0 b.0 (before m x z p) (before bm bx bz bp) (after m x z p) }
+    requires { RowsBy w d.0 d.0 b.0 (mem_of m x.old z.old p.old) (mem_of bm bx.now bz.now bp.now) }
+    ensures { RowPut w d.0 b.0 (mem_of m x.old z.old p.old) (mem_of bm bx.now bz.now bp.now) (mem_of m x.new z.new p.new) }
 {
     copy_words(x, bx, d.0 * w, b.0 * w, w);
     copy_words(z, bz, d.0 * w, b.0 * w, w);
@@ -181,8 +180,8 @@ fn fill(
     o: usize,
     a: RowNumber,
 )
-    requires { FillIn n w o a.0 (lent table_rows tx tz tp) (lent m x z p) }
-    ensures { Doubled n o a.0 (before table_rows tx tz tp) (before m x z p) (after table_rows tx tz tp) }
+    requires { FillIn n w o a.0 (mem_of table_rows tx.old tz.old tp.old) (mem_of m x.now z.now p.now) }
+    ensures { Doubled n o a.0 (mem_of table_rows tx.old tz.old tp.old) (mem_of m x.now z.now p.now) (mem_of table_rows tx.new tz.new tp.new) }
 {
     let mut i = 1;
     while i < o {
@@ -217,8 +216,8 @@ pub(crate) fn double(
     o: usize,
     a: RowNumber,
 )
-    requires { DoubleIn n o a.0 (lent table_rows tx tz tp) (lent m x z p) }
-    ensures { Doubled n o a.0 (before table_rows tx tz tp) (before m x z p) (after table_rows tx tz tp) }
+    requires { DoubleIn n o a.0 (mem_of table_rows tx.old tz.old tp.old) (mem_of m x.now z.now p.now) }
+    ensures { Doubled n o a.0 (mem_of table_rows tx.old tz.old tp.old) (mem_of m x.now z.now p.now) (mem_of table_rows tx.new tz.new tp.new) }
 {
     let w = encoding::words(n);
     put_row(crate::TABLE, tx, tz, tp, m, x, z, p, w, RowNumber(o), a);

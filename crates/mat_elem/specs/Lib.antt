@@ -4,5 +4,4 @@ pub mod Operator
 pub mod whole
 pub mod float
 pub mod states
-pub mod Lent
 pub mod Workers

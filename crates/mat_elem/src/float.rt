@@ -1,7 +1,6 @@
 // Matrix elements with coefficients of two f64.
 ghost use Rattle.std.specs.Prelude.{◌≡◌, ◌<◌, length};
 ghost use Rattle.std.specs.Float.Ieee.Scale as Scale;
-ghost use Rattle.mat_elem.specs.Lent.{content};
 ghost use Rattle.mat_elem.specs.Workers.{PartOf, span_of};
 ghost use Rattle.mat_elem.specs.float.Sums.{complex, turned_by, plus, both_finite, wild};
 ghost use Rattle.mat_elem.specs.float.Product.{MatElem};
@@ -72,7 +71,7 @@ fn step(s: Complex, re: f64, im: f64, k: ComplexSign) -> Complex
 // Whether a coefficient is not finite, in any term: one pass with no way out.
 fn some_wild(re: &[f64], im: &[f64]) -> bool
     requires { length im.now ≡ length re.now }
-    ensures { result ≡ wild (content re) (content im) }
+    ensures { result ≡ wild (re.now) (im.now) }
 {
     let mut bad = false;
     let mut i = 0;
@@ -94,7 +93,7 @@ fn block_sum(
     last: usize,
 ) -> Element
     requires { PartOf first last (length x.now) (length z.now) (length re.now) (length im.now) }
-    ensures { result ≡ span_of (content x) (content z) (content re) (content im) ket first last }
+    ensures { result ≡ span_of (x.now) (z.now) (re.now) (im.now) ket first last }
 {
     let mut i = first;
     let mut s = Complex { re: 0.0, im: 0.0 };
@@ -119,7 +118,7 @@ pub fn mat_elem_cmpnts_from_presorted(
     bra: u64,
     ket: u64,
 ) -> Element
-    ensures { MatElem n (content x) (content z) (content re) (content im) bra ket result }
+    ensures { MatElem n (x.now) (z.now) (re.now) (im.now) bra ket result }
 {
     let found = crate::find_block(n, x, z, re.len(), im.len(), bra, ket);
     match found {

@@ -5,7 +5,6 @@
 ghost use Rattle.std.specs.Prelude.{◌≡◌, suc, ◌^◌, ◌<◌, ◌≤◌, false, length, nat_lt};
 ghost use Rattle.encoding.specs.Ranks.{by_rank};
 ghost use Rattle.mat_elem.specs.Terms.{most_qubits, set_from, falls, lines_to10};
-ghost use Rattle.mat_elem.specs.Lent.{content};
 ghost use Rattle.mat_elem.specs.Workers.{shape_lines, word_lines, Looked, block_from, place_of, found_of};
 ghost use Rattle.mat_elem.specs.Sums.{exponent_of};
 
@@ -98,7 +97,7 @@ fn borrow(a: u64, b: u64) -> u64
 
 fn look(x: &[u64], z: &[u64]) -> Seen
     requires { length z.now ≡ length x.now }
-    ensures { Looked (content x) (content z) result.all result.falls }
+    ensures { Looked (x.now) (z.now) result.all result.falls }
 {
     let mut all: u64 = 0;
     let mut fall: u64 = 0;
@@ -121,7 +120,7 @@ fn look(x: &[u64], z: &[u64]) -> Seen
 // The lines 4 to 10.
 fn word_fault(n: usize, x: &[u64], z: &[u64], beside: bool) -> u8
     requires { length z.now ≡ length x.now }
-    ensures { result ≡ by_rank (word_lines n (content x) (content z) beside) }
+    ensures { result ≡ by_rank (word_lines n (x.now) (z.now) beside) }
 {
     let seen = look(x, z);
     if above(n, seen.all) | beside {
@@ -144,7 +143,7 @@ pub(crate) fn term_fault(
     unequal: bool,
     beside: bool,
 ) -> u8
-    ensures { result ≡ by_rank (lines_to10 n (content x) (content z) reals imags many unequal beside) }
+    ensures { result ≡ by_rank (lines_to10 n (x.now) (z.now) reals imags many unequal beside) }
 {
     let shape = shape_fault(n, x.len(), z.len(), reals, imags, many, unequal);
     if shape != 0 {
@@ -156,7 +155,7 @@ pub(crate) fn term_fault(
 // Whether the word at place k is below t: then the block of t starts after it.
 fn is_below(x: &[u64], k: usize, t: u64) -> bool
     requires { (falls x.now ≡ false) × (k < length x.now) }
-    ensures { result ≡ nat_lt k (block_from (content x) t) }
+    ensures { result ≡ nat_lt k (block_from (x.now) t) }
 {
     x[k] < t
 }
@@ -164,7 +163,7 @@ fn is_below(x: &[u64], k: usize, t: u64) -> bool
 // The guess, where the block of t starts at it or after it, and else 0.
 fn low_end(x: &[u64], t: u64, guess: usize) -> usize
     requires { falls x.now ≡ false }
-    ensures { result ≤ block_from (content x) t }
+    ensures { result ≤ block_from (x.now) t }
 {
     if guess == 0 {
         return 0;
@@ -178,7 +177,7 @@ fn low_end(x: &[u64], t: u64, guess: usize) -> usize
 // The guess, where the block of t starts at it or before it, and else the end.
 fn high_end(x: &[u64], t: u64, guess: usize) -> usize
     requires { falls x.now ≡ false }
-    ensures { (block_from (content x) t ≤ result) × (result ≤ length (content x)) }
+    ensures { (block_from (x.now) t ≤ result) × (result ≤ length (x.now)) }
 {
     if x.len() <= guess {
         return x.len();
@@ -194,7 +193,7 @@ fn high_end(x: &[u64], t: u64, guess: usize) -> usize
 fn lower(x: &[u64], t: u64, low: usize, high: usize) -> usize
     requires x_value { falls x.now ≡ false }
     requires low_bound { (low ≤ block_from x.now t) × (block_from x.now t ≤ high) × (high ≤ length x.now) }
-    ensures { result ≡ block_from (content x) t }
+    ensures { result ≡ block_from (x.now) t }
 {
     let mut lo = low;
     let mut hi = high;
@@ -212,7 +211,7 @@ fn lower(x: &[u64], t: u64, low: usize, high: usize) -> usize
 // The same, looked for between the guessed places first.
 fn start(x: &[u64], t: u64, guess: Place) -> usize
     requires { falls x.now ≡ false }
-    ensures { result ≡ block_from (content x) t }
+    ensures { result ≡ block_from (x.now) t }
 {
     let low = low_end(x, t, guess.first);
     let high = high_end(x, t, guess.last);
@@ -222,7 +221,7 @@ fn start(x: &[u64], t: u64, guess: Place) -> usize
 // The run of words that are t.
 pub(crate) fn block(x: &[u64], t: u64, guess: Place) -> Place
     requires { falls x.now ≡ false }
-    ensures { result ≡ place_of (content x) t }
+    ensures { result ≡ place_of (x.now) t }
 {
     let first = start(x, t, guess);
     let mut last = first;
@@ -245,7 +244,7 @@ pub(crate) fn find_block(
     bra: u64,
     ket: u64,
 ) -> Found
-    ensures { result ≡ found_of n (content x) (content z) reals imags bra ket }
+    ensures { result ≡ found_of n (x.now) (z.now) reals imags bra ket }
 {
     let beside = above(n, bra) | above(n, ket);
     let number = term_fault(n, x, z, reals, imags, false, false, beside);

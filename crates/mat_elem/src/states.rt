@@ -4,9 +4,8 @@ ghost use Rattle.encoding.specs.Refusals.{some};
 ghost use Rattle.encoding.specs.Ranks.{by_rank};
 ghost use Rattle.checked.specs.Range.{gauss};
 ghost use Rattle.mat_elem.specs.Terms.{set_from};
-ghost use Rattle.mat_elem.specs.Lent.{content, terms_lent, state_lent};
 ghost use Rattle.mat_elem.specs.Workers.{Ready, Parted, over_kets, over_bras, total_or};
-ghost use Rattle.mat_elem.specs.states.Sums.{part_lines};
+ghost use Rattle.mat_elem.specs.states.Sums.{part_lines, state, terms};
 ghost use Rattle.mat_elem.specs.states.Vectors.{MatElem};
 
 use crate::guide;
@@ -25,7 +24,7 @@ pub enum Total {
 
 // Whether a word of the list has a bit set at n or above.
 fn some_above(n: usize, ws: &[u64]) -> bool
-    ensures { result ≡ some (set_from n) (content ws) }
+    ensures { result ≡ some (set_from n) (ws.now) }
 {
     let mut hit = false;
     let mut i = 0;
@@ -38,7 +37,7 @@ fn some_above(n: usize, ws: &[u64]) -> bool
 
 // What the two lists have of line 4.
 fn lists_above(n: usize, bras: &[u64], kets: &[u64]) -> bool
-    ensures { result ≡ (some (set_from n) (content bras) || some (set_from n) (content kets)) }
+    ensures { result ≡ (some (set_from n) (bras.now) || some (set_from n) (kets.now)) }
 {
     some_above(n, bras) | some_above(n, kets)
 }
@@ -57,7 +56,7 @@ fn states_fault(
     kreals: usize,
     kimags: usize,
 ) -> u8
-    ensures { result ≡ by_rank (part_lines n (content x) (content z) reals imags (content bras) breals bimags (content kets) kreals kimags) }
+    ensures { result ≡ by_rank (part_lines n (x.now) (z.now) reals imags (bras.now) breals bimags (kets.now) kreals kimags) }
 {
     let b = bras.len();
     let k = kets.len();
@@ -85,7 +84,7 @@ fn over_kets(
 ) -> CheckedComplex
     requires ready { Ready x.now (length z.now) (length re.now) (length im.now) }
     requires parted { Parted (length kets.now) (length kre.now) (length kim.now) }
-    ensures { result ≡ over_kets (terms_lent x z re im) (state_lent kets kre kim) bra (gauss br bi) start }
+    ensures { result ≡ over_kets (terms x.now z.now re.now im.now) (state kets.now kre.now kim.now) bra (gauss br bi) start }
 {
     let mut j = 0;
     let mut s = start;
@@ -117,7 +116,7 @@ fn over_bras(
     requires ready { Ready x.now (length z.now) (length re.now) (length im.now) }
     requires parted { Parted (length bras.now) (length bre.now) (length bim.now) }
     requires parted_2 { Parted (length kets.now) (length kre.now) (length kim.now) }
-    ensures { result ≡ over_bras (terms_lent x z re im) (state_lent bras bre bim) (state_lent kets kre kim) }
+    ensures { result ≡ over_bras (terms x.now z.now re.now im.now) (state bras.now bre.now bim.now) (state kets.now kre.now kim.now) }
 {
     let mut i = 0;
     let mut s = CheckedComplex {
@@ -150,7 +149,7 @@ fn all_pairs(
     requires ready { Ready x.now (length z.now) (length re.now) (length im.now) }
     requires parted { Parted (length bras.now) (length bre.now) (length bim.now) }
     requires parted_2 { Parted (length kets.now) (length kre.now) (length kim.now) }
-    ensures { result ≡ over_bras (terms_lent x z re im) (state_lent bras bre bim) (state_lent kets kre kim) }
+    ensures { result ≡ over_bras (terms x.now z.now re.now im.now) (state bras.now bre.now bim.now) (state kets.now kre.now kim.now) }
 {
     let mut starts = [0usize; STARTS];
     let shift = guide::fill(x, bras.len() * kets.len(), &mut starts);
@@ -182,7 +181,7 @@ pub fn mat_elem_from_presorted(
     kre: &[i32],
     kim: &[i32],
 ) -> Total
-    ensures { MatElem n (terms_lent x z re im) (state_lent bras bre bim) (state_lent kets kre kim) result }
+    ensures { MatElem n (terms x.now z.now re.now im.now) (state bras.now bre.now bim.now) (state kets.now kre.now kim.now) result }
 {
     let number = states_fault(
         n,

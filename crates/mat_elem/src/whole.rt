@@ -1,7 +1,6 @@
 // Matrix elements with coefficients of two whole numbers.
 ghost use Rattle.std.specs.Prelude.{◌≡◌, ◌<◌, length, ◌+ℤ◌, neg_ℤ, FitsSigned, bit_xor};
 ghost use Rattle.std.specs.Int.{w64};
-ghost use Rattle.mat_elem.specs.Lent.{content};
 ghost use Rattle.mat_elem.specs.Workers.{PartOf, part_max, sum_max, Within, part_sum, Ready};
 ghost use Rattle.mat_elem.specs.whole.Sums.{complex, turned_by, plus, block_sum, MatElem};
 
@@ -9,7 +8,7 @@ use crate::{Found, Place};
 use pauli::ComplexSign;
 
 // A complex whole number.
-#[derive(Drop)]
+#[derive(Clone, Copy)]
 pub struct Complex {
     pub re: i64,
     pub im: i64,
@@ -92,7 +91,7 @@ fn block_sum(
     last: usize,
 ) -> Complex
     requires { PartOf first last (length x.now) (length z.now) (length re.now) (length im.now) }
-    ensures value { result ≡ part_sum (content x) (content z) (content re) (content im) ket first last }
+    ensures value { result ≡ part_sum (x.now) (z.now) (re.now) (im.now) ket first last }
     ensures within { Within sum_max result }
 {
     let mut i = first;
@@ -116,7 +115,7 @@ pub(crate) fn pair_element(
     guess: Place,
 ) -> Complex
     requires { Ready x.now (length z.now) (length re.now) (length im.now) }
-    ensures { result ≡ block_sum (content x) (content z) (content re) (content im) (bit_xor bra ket) ket }
+    ensures { result ≡ block_sum (x.now) (z.now) (re.now) (im.now) (bit_xor bra ket) ket }
 {
     let p = crate::block(x, bra ^ ket, guess);
     block_sum(x, z, re, im, ket, p.first, p.last)
@@ -132,7 +131,7 @@ pub fn mat_elem_cmpnts_from_presorted(
     bra: u64,
     ket: u64,
 ) -> Element
-    ensures { MatElem n (content x) (content z) (content re) (content im) bra ket result }
+    ensures { MatElem n (x.now) (z.now) (re.now) (im.now) bra ket result }
 {
     let found = crate::find_block(n, x, z, re.len(), im.len(), bra, ket);
     match found {

@@ -1,5 +1,4 @@
 pub mod Bytes
 pub mod File
 pub mod Calls
-pub mod Lent
 pub mod Workers

@@ -4,8 +4,7 @@ ghost use Rattle.encoding.specs.Limits.{max_qubits, max_rows};
 ghost use Rattle.encoding.specs.Ranks.{by_rank};
 ghost use Rattle.pwl.specs.Bytes.{nums};
 ghost use Rattle.pwl.specs.File.{run_by, whole_len};
-ghost use Rattle.pwl.specs.Calls.{run_lines, room_lines, filled_by, RunRead, Reads};
-ghost use Rattle.pwl.specs.Lent.{outputs_before, outputs_after};
+ghost use Rattle.pwl.specs.Calls.{run_lines, room_lines, filled_by, RunRead, Reads, outputs};
 ghost use Rattle.pwl.specs.Workers.{places_of, TaskFault};
 
 use crate::bytes::{get_units, get_words};
@@ -119,8 +118,8 @@ fn fill(
     requires at_value { (at ≡ places_of f) × (whole_len f ≤ length s.now) }
     requires entries_in_bounds { (f.order + f.listed + f.extra + 2 * f.entries ≤ length units.old) × (at.words ≤ length x.old)
         × (at.words ≤ length z.old) × (at.phases ≤ length p.old) × (at.words + (at.words + at.phases) ≤ length claimed.old) }
-    ensures { outputs_after units x z p claimed
-        ≡ filled_by (run_by f s.now) (outputs_before units x z p claimed) }
+    ensures { outputs units.new x.new z.new p.new claimed.new
+        ≡ filled_by (run_by f s.now) (outputs units.old x.old z.old p.old claimed.old) }
 {
     get_lists(s, f.order + f.listed + f.extra, at.log, f.entries, units);
     get_rows(s, at.start, at.words, at.phases, x, z, p);
@@ -139,9 +138,9 @@ fn read_run(
 ) -> Opened
     requires { (f.n ≤ 65535) × (f.m ≤ 65535) × (length s.now ≡ whole_len f) }
     ensures { RunRead (by_rank (run_lines (run_by f s.now) ++ room_lines (run_by f s.now)
-        (outputs_before units x z p claimed))) f (run_by f s.now)
-        (outputs_before units x z p claimed)
-        (outputs_after units x z p claimed) result }
+        (outputs units.old x.old z.old p.old claimed.old))) f (run_by f s.now)
+        (outputs units.old x.old z.old p.old claimed.old)
+        (outputs units.new x.new z.new p.new claimed.new) result }
 {
     let at = places_of(f);
     let k = run_fault(s, f, at);
@@ -175,8 +174,8 @@ pub fn read(
     p: &mut [u64],
     claimed: &mut [u64],
 ) -> Opened
-    ensures { Reads s.now (outputs_before units x z p claimed)
-        (outputs_after units x z p claimed) result }
+    ensures { Reads s.now (outputs units.old x.old z.old p.old claimed.old)
+        (outputs units.new x.new z.new p.new claimed.new) result }
 {
     let k = file_fault(s);
     if k != 0 {

@@ -2,8 +2,7 @@
 ghost use Rattle.std.specs.Prelude.{◌≡◌, [], ◌∷◌, ◌+◌, ◌*◌, ◌/◌, ◌%◌, ◌≤◌, length};
 ghost use Rattle.text.specs.Readers.{over};
 ghost use Rattle.pwl.specs.Bytes.{le, les};
-ghost use Rattle.pwl.specs.File.{front_for, image, laid, front, bytes_in, shapes_of};
-ghost use Rattle.pwl.specs.Lent.{run_lent, run_before};
+ghost use Rattle.pwl.specs.File.{front_for, image, laid, front, bytes_in, shapes_of, run};
 ghost use Rattle.pwl.specs.Workers.{parts, task_parts, claim_parts, Put, Imaged};
 
 use crate::Front;
@@ -146,10 +145,10 @@ pub(crate) fn put_run(
     cp: &[u64],
     out: &mut [u8],
 ) -> usize
-    requires n_bound { (f.n ≤ 65535) × (f.m ≤ 65535) × (f ≡ front_for (run_lent f.n f.m order listed extra x z p log cx cz cp)) }
-    requires cp_in_bounds { length (image (run_lent f.n f.m order listed extra x z p log cx cz cp))
+    requires n_bound { (f.n ≤ 65535) × (f.m ≤ 65535) × (f ≡ front_for (run f.n f.m order.now listed.now extra.now x.now z.now p.now log.now cx.now cz.now cp.now)) }
+    requires cp_in_bounds { length (image (run f.n f.m order.now listed.now extra.now x.now z.now p.now log.now cx.now cz.now cp.now))
         ≤ length out.old }
-    ensures { Imaged (run_before f.n f.m order listed extra x z p log cx cz cp) out.old out.new result }
+    ensures { Imaged (run f.n f.m order.now listed.now extra.now x.now z.now p.now log.now cx.now cz.now cp.now) out.old out.new result }
 {
     put_front(f, out);
     let at = put_task(order, listed, extra, x, z, p, out);

@@ -1,7 +1,7 @@
 // Writing a file: every test first, then the image.
+ghost use Rattle.pwl.specs.File.{run};
 ghost use Rattle.std.specs.Prelude.{◌≡◌, [], ◌∷◌, ◌≤◌};
 ghost use Rattle.encoding.specs.Ranks.{by_rank};
-ghost use Rattle.pwl.specs.Lent.{run_lent, run_before};
 ghost use Rattle.pwl.specs.Calls.{short_line, ImageWritten, Writes};
 ghost use Rattle.pwl.specs.Workers.{Shaped};
 
@@ -26,9 +26,9 @@ fn write_run(
     cp: &[u64],
     out: &mut [u8],
 ) -> Written
-    requires { Shaped (run_lent n m order listed extra x z p log cx cz cp) }
-    ensures { ImageWritten (by_rank (short_line (run_before n m order listed extra x z p log cx cz cp) out.old ∷ []))
-        (run_before n m order listed extra x z p log cx cz cp) out.old out.new result }
+    requires { Shaped (run n m order.now listed.now extra.now x.now z.now p.now log.now cx.now cz.now cp.now) }
+    ensures { ImageWritten (by_rank (short_line (run n m order.now listed.now extra.now x.now z.now p.now log.now cx.now cz.now cp.now) out.old ∷ []))
+        (run n m order.now listed.now extra.now x.now z.now p.now log.now cx.now cz.now cp.now) out.old out.new result }
 {
     let f = Front {
         n,
@@ -61,7 +61,7 @@ pub fn write(
     cp: &[u64],
     out: &mut [u8],
 ) -> Written
-    ensures { Writes (run_before n m order listed extra x z p log cx cz cp)
+    ensures { Writes (run n m order.now listed.now extra.now x.now z.now p.now log.now cx.now cz.now cp.now)
         out.old out.new result }
 {
     let f = check_fault(n, m, x, z, p, order, listed, extra, log, cx, cz, cp);

@@ -2,8 +2,8 @@
 
 #![tactic(auto)]
 
+ghost use Rattle.encoding.specs.Set.{mem_of};
 ghost use Rattle.std.specs.Prelude.{◌≡◌, not, [], ◌∷◌, eqb};
-ghost use Rattle.encoding.specs.Lent.{lent, before, after};
 ghost use Rattle.encoding.specs.Ranks.{by_rank, line};
 ghost use Rattle.replay.specs.Check.{task, claim, odd_log, check_fault, Passed, given, verdict_on, Checked};
 ghost use Rattle.replay.specs.Workers.{Judged};
@@ -60,10 +60,10 @@ fn compare(
     cz: &[u64],
     cphases: &[u64],
 ) -> Verdict
-    requires { Passed (task n (lent m x z phases) order.now listed.now extra.now)
-        (lent m cx cz cphases) }
-    ensures { result ≡ given (verdict_on (task n (before m x z phases) order.now listed.now extra.now)
-        (claim [] (before m cx cz cphases))) }
+    requires { Passed (task n (mem_of m x.now z.now phases.now) order.now listed.now extra.now)
+        (mem_of m cx.now cz.now cphases.now) }
+    ensures { result ≡ given (verdict_on (task n (mem_of m x.now z.now phases.now) order.now listed.now extra.now)
+        (claim [] (mem_of m cx.now cz.now cphases.now))) }
 {
     let d = rows::first_diff(n, m, x, z, phases, cx, cz, cphases);
     if d < m {
@@ -90,10 +90,10 @@ fn judge(
     cz: &[u64],
     cphases: &[u64],
 ) -> Verdict
-    requires { Passed (task n (lent m x z phases) order.now listed.now extra.now)
-        (lent m cx cz cphases) }
-    ensures { Judged (task n (before m x z phases) order.now listed.now extra.now)
-        (claim log.now (before m cx cz cphases)) result (after m x z phases) }
+    requires { Passed (task n (mem_of m x.old z.old phases.old) order.now listed.now extra.now)
+        (mem_of m cx.now cz.now cphases.now) }
+    ensures { Judged (task n (mem_of m x.old z.old phases.old) order.now listed.now extra.now)
+        (claim log.now (mem_of m cx.now cz.now cphases.now)) result (mem_of m x.new z.new phases.new) }
 {
     let h = log.len() / 2;
     let b = entries::first_bad(log, listed, extra);
@@ -119,10 +119,10 @@ pub fn check_fault(
     cz: &[u64],
     cphases: &[u64],
 ) -> u8
-    ensures value { result ≡ check_fault (task n (before m x z phases) order.now listed.now extra.now)
-        (claim log.now (before m cx cz cphases)) }
-    ensures passed { result ≡ 0 → Passed (task n (before m x z phases) order.now listed.now extra.now)
-        (before m cx cz cphases) }
+    ensures value { result ≡ check_fault (task n (mem_of m x.now z.now phases.now) order.now listed.now extra.now)
+        (claim log.now (mem_of m cx.now cz.now cphases.now)) }
+    ensures passed { result ≡ 0 → Passed (task n (mem_of m x.now z.now phases.now) order.now listed.now extra.now)
+        (mem_of m cx.now cz.now cphases.now) }
 {
     let a = reduce_fault(n, m, x, z, phases, order, listed, extra);
     let b = set_fault(n, m, cx, cz, cphases);
@@ -144,8 +144,8 @@ pub fn check(
     cz: &[u64],
     cphases: &[u64],
 ) -> Verdict
-    ensures { Checked (task n (before m x z phases) order.now listed.now extra.now)
-        (claim log.now (before m cx cz cphases)) result (after m x z phases) }
+    ensures { Checked (task n (mem_of m x.old z.old phases.old) order.now listed.now extra.now)
+        (claim log.now (mem_of m cx.now cz.now cphases.now)) result (mem_of m x.new z.new phases.new) }
 {
     let f = check_fault(
         n, m, x, z, phases, order, listed, extra, log, cx, cz, cphases,

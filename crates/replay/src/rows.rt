@@ -2,8 +2,7 @@
 ghost use Rattle.std.specs.Prelude.{◌≡◌, true, false, ◌+◌, ◌*◌, ◌/◌, ◌≤◌, ◌<◌, length, take};
 ghost use Rattle.encoding.specs.Limits.{words_of};
 ghost use Rattle.pauli.specs.Row.{same_row};
-ghost use Rattle.encoding.specs.Set.{row, rows_of, Valid};
-ghost use Rattle.encoding.specs.Lent.{lent, before, after};
+ghost use Rattle.encoding.specs.Set.{row, rows_of, Valid, mem_of};
 ghost use Rattle.reduction.specs.Log.{pairs};
 ghost use Rattle.reduction.specs.Checker.{first_diff};
 ghost use Rattle.replay.specs.Workers.{redone, place_of};
@@ -22,8 +21,8 @@ pub(crate) fn redo(
     k: usize,
 )
     requires { k ≤ length log.now / 2 }
-    ensures { after m x z phases
-        ≡ redone n (take k (pairs log.now)) (before m x z phases) }
+    ensures { mem_of m x.new z.new phases.new
+        ≡ redone n (take k (pairs log.now)) (mem_of m x.old z.old phases.old) }
 {
     let mut i = 0;
     while i < k {
@@ -65,11 +64,11 @@ fn same_row(
     cphases: &[u64],
     k: usize,
 ) -> bool
-    requires valid { Valid n (words_of n) (lent m x z phases) }
-    requires valid_2 { Valid n (words_of n) (lent m cx cz cphases) }
+    requires valid { Valid n (words_of n) (mem_of m x.now z.now phases.now) }
+    requires valid_2 { Valid n (words_of n) (mem_of m cx.now cz.now cphases.now) }
     requires k_lt_m { k < m }
-    ensures { result ≡ same_row n (rows_of n (before m x z phases) k)
-        (rows_of n (before m cx cz cphases) k) }
+    ensures { result ≡ same_row n (rows_of n (mem_of m x.now z.now phases.now) k)
+        (rows_of n (mem_of m cx.now cz.now cphases.now) k) }
 {
     let w = encoding::words(n);
     if !same_words(w, x, cx, k) {
@@ -94,10 +93,10 @@ pub(crate) fn first_diff(
     cz: &[u64],
     cphases: &[u64],
 ) -> usize
-    requires valid { Valid n (words_of n) (lent m x z phases) }
-    requires valid_2 { Valid n (words_of n) (lent m cx cz cphases) }
+    requires valid { Valid n (words_of n) (mem_of m x.now z.now phases.now) }
+    requires valid_2 { Valid n (words_of n) (mem_of m cx.now cz.now cphases.now) }
     ensures { place_of m result ≡ first_diff (same_row n)
-        (rows_of n (before m x z phases)) (rows_of n (before m cx cz cphases)) 0 m }
+        (rows_of n (mem_of m x.now z.now phases.now)) (rows_of n (mem_of m cx.now cz.now cphases.now)) 0 m }
 {
     let mut i = 0;
     while i < m {

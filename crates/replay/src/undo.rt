@@ -1,6 +1,6 @@
 // Walking a log back: the entries are tested as the checker tests them, and then taken back, the last one first.
+ghost use Rattle.encoding.specs.Set.{mem_of};
 ghost use Rattle.std.specs.Prelude.{◌≡◌, [], ◌+◌, ◌<◌};
-ghost use Rattle.encoding.specs.Lent.{lent, before, after};
 ghost use Rattle.reduction.specs.Log.{pairs};
 ghost use Rattle.terms.specs.Refused.{Reducible};
 ghost use Rattle.replay.specs.Undo.{Undoes};
@@ -32,8 +32,8 @@ fn imul_inverse(
     a: RowNumber,
     b: RowNumber,
 )
-    ensures { after m x z phases
-        ≡ mul_back_in n a.0 b.0 (before m x z phases) }
+    ensures { mem_of m x.new z.new phases.new
+        ≡ mul_back_in n a.0 b.0 (mem_of m x.old z.old phases.old) }
 {
     imul_unchecked(n, m, x, z, phases, a, b);
     turn(phases, a, b);
@@ -49,8 +49,8 @@ fn next_back(h: usize, i: usize) -> usize
 
 // All entries are taken back, the last one first.
 fn take_back(n: usize, m: usize, x: &mut [u64], z: &mut [u64], phases: &mut [u64], log: &[u16])
-    ensures { after m x z phases
-        ≡ mem_taken_back n (pairs log.now) (before m x z phases) }
+    ensures { mem_of m x.new z.new phases.new
+        ≡ mem_taken_back n (pairs log.now) (mem_of m x.old z.old phases.old) }
 {
     let h = log.len() / 2;
     let mut i = 0;
@@ -75,9 +75,9 @@ fn walk_back(
     extra: &[u16],
     log: &[u16],
 ) -> Undone
-    requires { Reducible n [] listed.now extra.now (lent m x z phases) }
+    requires { Reducible n [] listed.now extra.now (mem_of m x.old z.old phases.old) }
     ensures { Walked n listed.now extra.now log.now
-        (before m x z phases) (after m x z phases) result }
+        (mem_of m x.old z.old phases.old) (mem_of m x.new z.new phases.new) result }
 {
     let b = first_bad(log, listed, extra);
     if b < log.len() / 2 {
@@ -99,7 +99,7 @@ pub fn undo(
     log: &[u16],
 ) -> Undone
     ensures { Undoes n listed.now extra.now log.now
-        (before m x z phases) (after m x z phases) result }
+        (mem_of m x.old z.old phases.old) (mem_of m x.new z.new phases.new) result }
 {
     let f = reduce_fault(n, m, x, z, phases, &log[0..0], listed, extra);
     let g = log_fault(f, log.len());

@@ -3,8 +3,7 @@ ghost use Rattle.std.specs.Prelude.{◌≡◌, true, ◌++◌, ◌∷◌, suc, �
 ghost use Rattle.text.specs.Numbers.{numeral};
 ghost use Rattle.encoding.specs.Limits.{max_qubits, max_rows, words_of};
 ghost use Rattle.encoding.specs.Words.{qubits};
-ghost use Rattle.encoding.specs.Set.{rows_of, Sound};
-ghost use Rattle.encoding.specs.Lent.{lent, before};
+ghost use Rattle.encoding.specs.Set.{rows_of, Sound, mem_of};
 ghost use Rattle.cmpnt_list.specs.Workers.{RowAt};
 ghost use Rattle.row_text.specs.Text.{spaced, text_of};
 ghost use Rattle.row_text.specs.Calls.{TextWritten, FmtElem};
@@ -209,10 +208,10 @@ fn fmt_at(
     r: usize,
     out: &mut [u8],
 ) -> Written
-    requires sound { Sound n (lent m x z phases) }
+    requires sound { Sound n (mem_of m x.now z.now phases.now) }
     requires r_lt_m { r < m }
-    ensures { TextWritten (falls_short (rows_of n (before m x z phases) r).ps out.old)
-        (rows_of n (before m x z phases) r).ps out.old out.new result }
+    ensures { TextWritten (falls_short (rows_of n (mem_of m x.now z.now phases.now) r).ps out.old)
+        (rows_of n (mem_of m x.now z.now phases.now) r).ps out.old out.new result }
 {
     let s = row_span(r, n, m);
     let a = s.0;
@@ -244,7 +243,7 @@ pub fn fmt_elem(
     row: RowNumber,
     out: &mut [u8],
 ) -> Written
-    ensures { FmtElem n (before m x z phases) row.0 out.old out.new result }
+    ensures { FmtElem n (mem_of m x.now z.now phases.now) row.0 out.old out.new result }
 {
     let f = encoding::row_fault(n, m, x, z, phases, m <= row.0);
     if f != 0 {

@@ -1,8 +1,7 @@
 // A text into a row. It is read into words of its own first, so that a text that is none leaves the row as it was.
 ghost use Rattle.std.specs.Prelude.{◌≡◌, [], ◌≤◌, ◌<◌, length, drop, take};
 ghost use Rattle.encoding.specs.Limits.{max_qubits, max_words, words_of};
-ghost use Rattle.encoding.specs.Set.{Sound};
-ghost use Rattle.encoding.specs.Lent.{lent, before, after};
+ghost use Rattle.encoding.specs.Set.{Sound, mem_of};
 ghost use Rattle.encoding.specs.Refusals.{is_on};
 ghost use Rattle.row_text.specs.Calls.{ParseElem};
 ghost use Rattle.row_text.specs.Workers.{letter_of, past, left, lettered as Workers·lettered, NamedBy, NextPauli};
@@ -179,10 +178,10 @@ fn parse_at(
     r: usize,
     s: &[u8],
 ) -> bool
-    requires sound { Sound n (lent m x z phases) }
+    requires sound { Sound n (mem_of m x.old z.old phases.now) }
     requires r_lt_m { r < m }
-    ensures { SetParsed n (before m x z phases) r s.now
-        (after m x z phases) result }
+    ensures { SetParsed n (mem_of m x.old z.old phases.now) r s.now
+        (mem_of m x.new z.new phases.now) result }
 {
     let span = row_span(r, n, m);
     let a = span.0;
@@ -200,8 +199,8 @@ pub fn parse_elem(
     row: RowNumber,
     text: &[u8],
 ) -> Answer
-    ensures { ParseElem n (before m x z phases) row.0 text.now
-        (after m x z phases) result }
+    ensures { ParseElem n (mem_of m x.old z.old phases.now) row.0 text.now
+        (mem_of m x.new z.new phases.now) result }
 {
     let f = encoding::row_fault(n, m, x, z, phases, m <= row.0);
     if f != 0 {

@@ -3,8 +3,7 @@
 #![tactic(auto)]
 
 ghost use Rattle.std.specs.Prelude.{◌≡◌, ◌+◌, ◌≤◌, length};
-ghost use Rattle.encoding.specs.Set.{Sound};
-ghost use Rattle.encoding.specs.Lent.{lent, before, after};
+ghost use Rattle.encoding.specs.Set.{Sound, mem_of};
 ghost use Rattle.encoding.specs.Limits.{max_qubits, max_rows};
 ghost use Rattle.encoding.specs.Refusals.{rows_lines};
 ghost use Rattle.encoding.specs.Ranks.{by_rank};
@@ -47,7 +46,7 @@ pub fn imul(
     a: RowNumber,
     b: RowNumber,
 ) -> Clashes
-    ensures { Multiplies n a.0 b.0 (before m x z phases) (after m x z phases) result }
+    ensures { Multiplies n a.0 b.0 (mem_of m x.old z.old phases.old) (mem_of m x.new z.new phases.new) result }
 {
     let large = (m <= a.0) | (m <= b.0);
     let f = encoding::row_fault(n, m, x, z, phases, large);
@@ -69,8 +68,8 @@ pub fn reduce_fault(
     listed: &[u16],
     extra: &[u16],
 ) -> u8
-    ensures value { result ≡ reduce_fault n (before m x z phases) order.now listed.now extra.now }
-    ensures passed { result ≡ 0 → Reducible n order.now listed.now extra.now (before m x z phases) }
+    ensures value { result ≡ reduce_fault n (mem_of m x.now z.now phases.now) order.now listed.now extra.now }
+    ensures passed { result ≡ 0 → Reducible n order.now listed.now extra.now (mem_of m x.now z.now phases.now) }
 {
     let f = encoding::set_fault(n, m, x, z, phases);
     if f != 0 {
@@ -91,10 +90,10 @@ fn reduced(
     extra: &[u16],
     log: &mut [u16],
 ) -> Canonicalized
-    requires { ListsIn n order.now listed.now extra.now (lent m x z phases) }
+    requires { ListsIn n order.now listed.now extra.now (mem_of m x.old z.old phases.old) }
     ensures { Leaves n 0
-        (outcome_of n order.now listed.now extra.now (before m x z phases) log.old)
-        (before m x z phases) log.old (after m x z phases) log.new result }
+        (outcome_of n order.now listed.now extra.now (mem_of m x.old z.old phases.old) log.old)
+        (mem_of m x.old z.old phases.old) log.old (mem_of m x.new z.new phases.new) log.new result }
 {
     let s = reduce::columns(n, m, x, z, phases, log, order, listed, extra);
     if s.full {
@@ -117,8 +116,8 @@ pub fn canonicalize(
     extra: &[u16],
     log: &mut [u16],
 ) -> Canonicalized
-    ensures { Reduces n order.now listed.now extra.now (before m x z phases) log.old
-        (after m x z phases) log.new result }
+    ensures { Reduces n order.now listed.now extra.now (mem_of m x.old z.old phases.old) log.old
+        (mem_of m x.new z.new phases.new) log.new result }
 {
     let f = reduce_fault(n, m, x, z, phases, order, listed, extra);
     if f != 0 {
@@ -151,10 +150,10 @@ fn reduced_by(
     rows: &[u16],
     log: &mut [u16],
 ) -> Canonicalized
-    requires sound { Sound n (lent m x z phases) }
+    requires sound { Sound n (mem_of m x.old z.old phases.old) }
     requires columns_value { (columns.now ≡ up_to (max_qubits + max_qubits)) × (rows.now ≡ up_to max_rows) }
-    ensures { Leaves n 0 (whole_outcome n (before m x z phases) log.old)
-        (before m x z phases) log.old (after m x z phases) log.new result }
+    ensures { Leaves n 0 (whole_outcome n (mem_of m x.old z.old phases.old) log.old)
+        (mem_of m x.old z.old phases.old) log.old (mem_of m x.new z.new phases.new) log.new result }
 {
     let k = n + n;
     reduced(
@@ -179,9 +178,9 @@ fn reduced_all(
     phases: &mut [u64],
     log: &mut [u16],
 ) -> Canonicalized
-    requires { Sound n (lent m x z phases) }
-    ensures { Leaves n 0 (whole_outcome n (before m x z phases) log.old)
-        (before m x z phases) log.old (after m x z phases) log.new result }
+    requires { Sound n (mem_of m x.old z.old phases.old) }
+    ensures { Leaves n 0 (whole_outcome n (mem_of m x.old z.old phases.old) log.old)
+        (mem_of m x.old z.old phases.old) log.old (mem_of m x.new z.new phases.new) log.new result }
 {
     let mut columns = [0u16; MAX_COLUMNS];
     count_up(&mut columns);
@@ -199,7 +198,7 @@ pub fn canonicalize_all(
     phases: &mut [u64],
     log: &mut [u16],
 ) -> Canonicalized
-    ensures { ReducesAll n (before m x z phases) log.old (after m x z phases) log.new result }
+    ensures { ReducesAll n (mem_of m x.old z.old phases.old) log.old (mem_of m x.new z.new phases.new) log.new result }
 {
     let f = encoding::set_fault(n, m, x, z, phases);
     if f != 0 {

@@ -1,8 +1,7 @@
 // The reduction rule over a row set that the refusals passed: a function for each step of the rule.
 ghost use Rattle.std.specs.Prelude.{◌≡◌, ◌++◌, ◌+◌, ◌≤◌, ◌<◌, length};
 ghost use Rattle.pauli.specs.Row.{mul_row, bit_row};
-ghost use Rattle.encoding.specs.Set.{Sound};
-ghost use Rattle.encoding.specs.Lent.{lent, before, after};
+ghost use Rattle.encoding.specs.Set.{Sound, mem_of};
 ghost use Rattle.reduction.specs.Log.{capacity};
 ghost use Rattle.reduction.specs.Workers.{through, multiply_c, turn_c, lead_c, pivot_c, column_c};
 ghost use Rattle.terms.specs.Workers.{Below, Ready, start, Does};
@@ -23,9 +22,9 @@ fn put(
     a: u16,
     b: u16,
 ) -> Progress
-    requires ready { Ready n (lent m x z p) log.old s }
+    requires ready { Ready n (mem_of m x.old z.old p.old) log.old s }
     requires a_lt_m { (a < m) × (b < m) }
-    ensures { Does n (multiply_c (mul_row n) (capacity log.old) a b) (before m x z p) log.old s (after m x z p)
+    ensures { Does n (multiply_c (mul_row n) (capacity log.old) a b) (mem_of m x.old z.old p.old) log.old s (mem_of m x.new z.new p.new)
         log.new result }
 {
     let k = s.entries;
@@ -61,10 +60,10 @@ fn turn(
     pivot: u16,
     k: u16,
 ) -> Progress
-    requires ready { Ready n (lent m x z p) log.old s }
+    requires ready { Ready n (mem_of m x.old z.old p.old) log.old s }
     requires c_bound { (c < n + n) × (pivot < m) × (k < m) }
-    ensures { Does n (turn_c (bit_row n) (mul_row n) (capacity log.old) c pivot k) (before m x z p) log.old s
-        (after m x z p) log.new result }
+    ensures { Does n (turn_c (bit_row n) (mul_row n) (capacity log.old) c pivot k) (mem_of m x.old z.old p.old) log.old s
+        (mem_of m x.new z.new p.new) log.new result }
 {
     if k == pivot {
         return s;
@@ -88,10 +87,10 @@ fn clear(
     c: usize,
     pivot: u16,
 ) -> Progress
-    requires ready { Ready n (lent m x z p) log.old s }
+    requires ready { Ready n (mem_of m x.old z.old p.old) log.old s }
     requires c_bound { (c < n + n) × (pivot < m) × Below m list.now }
-    ensures { Does n (through (turn_c (bit_row n) (mul_row n) (capacity log.old) c pivot) list.now) (before m x z p)
-        log.old s (after m x z p) log.new result }
+    ensures { Does n (through (turn_c (bit_row n) (mul_row n) (capacity log.old) c pivot) list.now) (mem_of m x.old z.old p.old)
+        log.old s (mem_of m x.new z.new p.new) log.new result }
 {
     let mut r = s;
     let mut i = 0;
@@ -117,10 +116,10 @@ fn lead(
     pivot: u16,
     found: u16,
 ) -> Progress
-    requires ready { Ready n (lent m x z p) log.old s }
+    requires ready { Ready n (mem_of m x.old z.old p.old) log.old s }
     requires pivot_lt_m { (pivot < m) × (found < m) }
-    ensures { Does n (lead_c (bit_row n) (mul_row n) (capacity log.old) pivot found) (before m x z p) log.old s
-        (after m x z p) log.new result }
+    ensures { Does n (lead_c (bit_row n) (mul_row n) (capacity log.old) pivot found) (mem_of m x.old z.old p.old) log.old s
+        (mem_of m x.new z.new p.new) log.new result }
 {
     if found == pivot {
         return s;
@@ -142,10 +141,10 @@ fn clear_both(
     c: usize,
     pivot: u16,
 ) -> Progress
-    requires ready { Ready n (lent m x z p) log.old s }
+    requires ready { Ready n (mem_of m x.old z.old p.old) log.old s }
     requires c_bound { (c < n + n) × (pivot < m) × Below m listed.now × Below m extra.now }
     ensures { Does n (through (turn_c (bit_row n) (mul_row n) (capacity log.old) c pivot)
-        (listed.now ++ extra.now)) (before m x z p) log.old s (after m x z p) log.new result }
+        (listed.now ++ extra.now)) (mem_of m x.old z.old p.old) log.old s (mem_of m x.new z.new p.new) log.new result }
 {
     let r = clear(n, m, x, z, p, log, listed, s, c, pivot);
     if r.full {
@@ -169,11 +168,11 @@ fn pivot_by(
     pivot: u16,
     found: u16,
 ) -> Progress
-    requires ready { Ready n (lent m x z p) log.old s }
+    requires ready { Ready n (mem_of m x.old z.old p.old) log.old s }
     requires c_bound { (c < n + n) × (pivot < m) × (found < m) × Below m listed.now
         × Below m extra.now }
     ensures { Does n (pivot_c (bit_row n) (mul_row n) (capacity log.old)
-        (listed.now ++ extra.now) c pivot found) (before m x z p) log.old s (after m x z p) log.new result }
+        (listed.now ++ extra.now) c pivot found) (mem_of m x.old z.old p.old) log.old s (mem_of m x.new z.new p.new) log.new result }
 {
     let r = lead(n, m, x, z, p, log, s, pivot, found);
     if r.full {
@@ -195,11 +194,11 @@ fn column(
     s: Progress,
     c: usize,
 ) -> Progress
-    requires ready { Ready n (lent m x z p) log.old s }
+    requires ready { Ready n (mem_of m x.old z.old p.old) log.old s }
     requires c_bound { (c < n + n) × (s.t ≤ length listed.now) × Below m listed.now × Below m extra.now }
     ensures t_in_bounds { result.t ≤ length listed.now }
     ensures does { Does n (column_c (bit_row n) (mul_row n) (capacity log.old) listed.now extra.now c)
-        (before m x z p) log.old s (after m x z p) log.new result }
+        (mem_of m x.old z.old p.old) log.old s (mem_of m x.new z.new p.new) log.new result }
 {
     let t = s.t;
     let f = find(n, x, z, listed, t, c);
@@ -236,10 +235,10 @@ fn by_loops(
     listed: &[u16],
     extra: &[u16],
 ) -> Progress
-    requires sound { Sound n (lent m x z p) }
+    requires sound { Sound n (mem_of m x.old z.old p.old) }
     requires below { Below (n + n) order.now × Below m listed.now × Below m extra.now }
     ensures { Does n (through (column_c (bit_row n) (mul_row n) (capacity log.old) listed.now extra.now)
-        order.now) (before m x z p) log.old start (after m x z p) log.new result }
+        order.now) (mem_of m x.old z.old p.old) log.old start (mem_of m x.new z.new p.new) log.new result }
 {
     let mut r = Progress {
         full: false,
@@ -275,10 +274,10 @@ fn by_table(
     listed: &[u16],
     extra: &[u16],
 ) -> Progress
-    requires sound { Sound n (lent m x z p) }
+    requires sound { Sound n (mem_of m x.old z.old p.old) }
     requires below { Below (n + n) order.now × Below m listed.now × Below m extra.now }
     ensures { Does n (through (column_c (bit_row n) (mul_row n) (capacity log.old) listed.now extra.now)
-        order.now) (before m x z p) log.old start (after m x z p) log.new result }
+        order.now) (mem_of m x.old z.old p.old) log.old start (mem_of m x.new z.new p.new) log.new result }
 {
     late::columns(n, m, x, z, p, log, order, listed, extra)
 }
@@ -295,10 +294,10 @@ pub(crate) fn columns(
     listed: &[u16],
     extra: &[u16],
 ) -> Progress
-    requires sound { Sound n (lent m x z p) }
+    requires sound { Sound n (mem_of m x.old z.old p.old) }
     requires below { Below (n + n) order.now × Below m listed.now × Below m extra.now }
     ensures { Does n (through (column_c (bit_row n) (mul_row n) (capacity log.old) listed.now extra.now)
-        order.now) (before m x z p) log.old start (after m x z p) log.new result }
+        order.now) (mem_of m x.old z.old p.old) log.old start (mem_of m x.new z.new p.new) log.new result }
 {
     let few = (m < LATE_ROWS) | (order.len() < LATE_COLUMNS);
     if few {

@@ -2,8 +2,7 @@
 ghost use Rattle.std.specs.Prelude.{◌≡◌, ◌+◌, ◌/◌, ◌%◌, ◌<◌, ◌≤◌, drop};
 ghost use Rattle.encoding.specs.Limits.{max_rows, max_words};
 ghost use Rattle.encoding.specs.Words.{bit_at};
-ghost use Rattle.encoding.specs.Set.{row, exponent_at, with_exponent};
-ghost use Rattle.encoding.specs.Lent.{lent, before, after};
+ghost use Rattle.encoding.specs.Set.{row, exponent_at, with_exponent, mem_of};
 ghost use Rattle.terms.specs.Workers.{bit_in, first_place, mul_in, clashes_in, InRows, RowsMultiplied};
 
 use encoding::{MAX_QUBITS, MAX_ROWS};
@@ -72,8 +71,8 @@ fn mul_rows(
     a: RowNumber,
     b: RowNumber,
 ) -> u16
-    requires { InRows w a.0 b.0 (lent m x z p) }
-    ensures { RowsMultiplied w a.0 b.0 (before m x z p) (after m x z p) result }
+    requires { InRows w a.0 b.0 (mem_of m x.old z.old p.old) }
+    ensures { RowsMultiplied w a.0 b.0 (mem_of m x.old z.old p.old) (mem_of m x.new z.new p.new) result }
 {
     let f = products::imul_op_op(x, z, a.0 * w, b.0 * w, w);
     add_exponent(p, a, b, f.phase);
@@ -91,8 +90,8 @@ pub fn imul_unchecked(
     a: RowNumber,
     b: RowNumber,
 ) -> u16
-    ensures p_value { after m x z p ≡ mul_in n a.0 b.0 (before m x z p) }
-    ensures number { result ≡ clashes_in n a.0 b.0 (before m x z p) }
+    ensures p_value { mem_of m x.new z.new p.new ≡ mul_in n a.0 b.0 (mem_of m x.old z.old p.old) }
+    ensures number { result ≡ clashes_in n a.0 b.0 (mem_of m x.old z.old p.old) }
 {
     if encoding::out_fault(n, m, x, z, p) != 0 {
         return 0;

@@ -6,7 +6,6 @@ ghost use Rattle.std.specs.Prelude.{◌≡◌, ◌+◌, ◌*◌, ◌^◌, ◌≤
 ghost use Rattle.text.specs.Numbers.{numeral};
 ghost use Rattle.encoding.specs.Ranks.{by_rank};
 ghost use Rattle.pwl.specs.Calls.{run_lines, outputs};
-ghost use Rattle.pwl.specs.Lent.{outputs_before, outputs_after};
 ghost use Rattle.verdict.specs.Verdict.{answer_on, text_of};
 ghost use Rattle.verdict.specs.Workers.{Room, Ended, run_in, TakenOf, made, TakenFrom, TakenIn, Judges, Says, Answers};
 
@@ -54,8 +53,8 @@ fn check_parts(
     requires order_le_listed { (e.order ≤ e.listed) × (e.listed ≤ e.extra) × (e.extra ≤ e.log) × (e.log ≤ length units.now) }
     requires words_in_bounds { (e.words ≤ length x.old) × (e.words ≤ length z.old) × (e.phases ≤ length p.old) }
     requires phases_in_bounds { e.words + e.words + e.phases ≤ length claimed.now }
-    ensures { result ≡ answer_on (by_rank (run_lines (run_in n m e (outputs_before units x z p claimed))))
-        (run_in n m e (outputs_before units x z p claimed)) }
+    ensures { result ≡ answer_on (by_rank (run_lines (run_in n m e (outputs units.now x.old z.old p.old claimed.now))))
+        (run_in n m e (outputs units.now x.old z.old p.old claimed.now)) }
 {
     let q = e.words;
     let v = e.phases;
@@ -153,7 +152,7 @@ fn take(
     p: &mut [u64],
     claimed: &mut [u64],
 ) -> Taken
-    ensures { TakenFrom s.now (outputs_before units x z p claimed) (outputs_after units x z p claimed) result }
+    ensures { TakenFrom s.now (outputs units.old x.old z.old p.old claimed.old) (outputs units.new x.new z.new p.new claimed.new) result }
 {
     if MOST < s.len() {
         return Taken {
@@ -210,7 +209,7 @@ fn take_in(
     p: &mut [u64; PHASES],
     claimed: &mut [u64; CLAIMED],
 ) -> Taken
-    ensures { TakenIn (outputs_before units x z p claimed) (outputs_after units x z p claimed) result }
+    ensures { TakenIn (outputs units.old x.old z.old p.old claimed.old) (outputs units.new x.new z.new p.new claimed.new) result }
 {
     let mut buf = [0u8; MOST + 1];
     let got = read_input(rt, &mut buf);
@@ -227,7 +226,7 @@ fn judge(
     claimed: &[u64; CLAIMED],
 ) -> Verdict
     requires { (t.large ≡ false) × TakenIn made (outputs units.now x.old z.old p.old claimed.now) t }
-    ensures { Judges t (outputs_before units x z p claimed) result }
+    ensures { Judges t (outputs units.now x.old z.old p.old claimed.now) result }
 {
     let k = t.refusal;
     if k != 0 {
@@ -281,7 +280,7 @@ fn put_line(
     claimed: &[u64; CLAIMED],
 ) -> usize
     requires { (64 ≤ length out.old) × TakenIn made (outputs units.now x.old z.old p.old claimed.now) t }
-    ensures { Answers t (outputs_before units x z p claimed) out.new result }
+    ensures { Answers t (outputs units.now x.old z.old p.old claimed.now) out.new result }
 {
     if t.large {
         return put_plain(out, b"too large\n");

@@ -1,0 +1,12 @@
+-- `table::look_row` meets its contract: the sum so far and what the look-ups to come bring in the words to come are the whole, mod 4,
+-- since each word takes 32 of them, or all that are left. Assumes nothing.
+use Prim.Native.Nat.{◌-◌, ◌≤◌}
+use Rattle.table.specs.Table.{table_phase}
+use Rattle.table.proofs.Walks.{Rowed}
+use Rattle.table.proofs.look_row.Given as goal
+
+abbrev pub invariant-loop-i : goal.invariant-loop-i
+invariant-loop-i l = (l.i ≤ l.m) × Rowed (table_phase l.n l.lx l.lz l.rx l.rz) l.left l.e l.i l.lx l.lz l.rx l.rz
+
+abbrev pub decreases-loop-i : goal.decreases-loop-i
+decreases-loop-i l = l.m - l.i
