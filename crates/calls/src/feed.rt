@@ -1,6 +1,6 @@
 // Lines out of standard input and answers into standard output. Answers are written out before any read, which may wait: whoever asks
 // line by line has the answers to all lines that came.
-ghost use Rattle.std.specs.Prelude.{◌≤◌, ◌<◌, length};
+ghost use Rattle.std.specs.Prelude.{◌+◌, ◌≤◌, ◌<◌, length, IfOk};
 
 use crate::{ANSWER, LINE, TERMS, line};
 use std::io::{self, ErrorKind, Read};
@@ -115,7 +115,9 @@ fn cut(buf: &mut [u8], n: usize) -> usize
 }
 
 // Behind what stands before n; how many bytes came, 0 at the end of the input.
-fn read_at(rt: &HostRuntime, buf: &mut [u8], n: usize) -> io::Result<usize> {
+fn read_at(rt: &HostRuntime, buf: &mut [u8], n: usize) -> io::Result<usize>
+    ensures { IfOk result (λ k. n + k ≤ length buf.old) }
+{
     if n < buf.len() {
         let e = n + least(CHUNK, buf.len() - n);
         return rt.stdin().read(&mut buf[n..e]);
