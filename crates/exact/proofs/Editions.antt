@@ -36,6 +36,7 @@ use Rattle.exact.proofs.Exact.{not-refused, sum-exactly}
 -- ---- 11 does not arise
 is_true : (b : Bool) → T b → b ≡ true
 is_true true h = refl
+is_true false h = elim h [ ]
 
 no-wild : (fs : List Float) (is : List ℤ) → SameParts fs is → some (λ x. not (finite x)) fs ≡ false
 no-wild fs is p = some-never (λ x. not (finite x)) nan fs (λ k h. ap not (is_true (finite (get_or fs k nan)) (reads-finite _ _ (p.reads k h))))

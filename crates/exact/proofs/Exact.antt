@@ -41,6 +41,8 @@ pub record Exactly (c : FloatComplex) (w : WholeComplex) (S : ℕ) : Type 0 wher
 
 both : (a b : Bool) → T a → T b → (a && b) ≡ true
 both true true p q = refl
+both false b p q = elim p [ ]
+both true false p q = elim q [ ]
 
 finite-sum : (c : FloatComplex) (w : WholeComplex) (S : ℕ) → Exactly c w S → bad c ≡ false
 finite-sum c w S g = ap not (both (finite c.re) (finite c.im) (reads-finite _ _ g.re-reads) (reads-finite _ _ g.im-reads))

@@ -32,6 +32,8 @@ reads-one (fin t m e) z w (whole s a v) (whole u b r) =
 neg_value : (x : Float) (s : Bool) (n : ℕ) → HasValue x s n 1 → HasValue (neg x) (not s) n 1
 unfolding neg
 neg_value (fin t m e) s n v = (ap not v.0, v.1)
+neg_value nan s n v = elim v [ ]
+neg_value (inf _) s n v = elim v [ ]
 
 neg-signed : (s : Bool) (n : ℕ) → signed (not s) n ≡ neg_ℤ (signed s n)
 neg-signed false n = refl

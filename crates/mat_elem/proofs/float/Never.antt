@@ -12,6 +12,7 @@ use lib.Ieee.Scale.{finite}
 use Rattle.mat_elem.specs.float.Product.{not_minus_zero}
 use Rattle.mat_elem.proofs.float.Unique.{in-units, held}
 use Rattle.mat_elem.proofs.float.Zero.{add_is}
+use lib.Ieee.{nan}
 
 -- ---- what has a size above 0 is no zero
 value-live : (x : Float) (s : Bool) (a c : ℕ) → HasValue x s a c → 0 < a → T (not_minus_zero x)
@@ -19,6 +20,8 @@ value-live (fin false m e) s a c v h = tt
 value-live (fin true (suc m) e) s a c v h = tt
 value-live (fin true zero e) s a c v h =
     lt_irrefl 0 (subst (λ (z : ℕ). 0 < z) (sym v.1 ∙ ap (λ (z : ℕ). z * c) (zero-mul (up e)) ∙ zero-mul c) (mul-pos h (down_pos e)))
+value-live nan s a c v h = elim v [ ]
+value-live (inf _) s a c v h = elim v [ ]
 
 units-live : (f : Format) (s : Bool) (q k : ℕ) → 0 < q → T (not_minus_zero (units f s q k))
 unfolding units
@@ -33,6 +36,8 @@ plus-live : (x : Float) (a c : ℕ) → HasValue x false a c → T (not_minus_ze
 plus-live (fin false m e) a c v = tt
 plus-live (fin true (suc m) e) a c v = tt
 plus-live (fin true zero e) a c v = subst T v.0 tt
+plus-live nan a c v = elim v [ ]
+plus-live (inf _) a c v = elim v [ ]
 
 units-plus : (f : Format) (q k : ℕ) → T (not_minus_zero (units f false q k))
 unfolding units
@@ -129,3 +134,9 @@ add-live f (fin s m e) (fin t n d) _ _ p q k =
   where
     some : (s : Bool) (m : ℕ) (e : ℤ) (j : ℕ) → T (not_minus_zero (fin s m e)) → T s → 0 < m * 2 ^ j
     some true (suc m) e j k h = mul-pos (zero-lt-suc m) (pow_pos j)
+    some false _ e j k h = elim h [ ]
+    some true zero e j k h = elim k [ ]
+add-live f nan y h _ p q k = elim h [ ]
+add-live f (inf _) y h _ p q k = elim h [ ]
+add-live f (fin s m e) nan _ h p q k = elim h [ ]
+add-live f (fin s m e) (inf _) _ h p q k = elim h [ ]

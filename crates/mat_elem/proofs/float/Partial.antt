@@ -28,6 +28,8 @@ unfolding add
 add-past nan y e h = refl
 add-past (inf s) (fin t n d) e h = refl
 add-past (fin s m d) y e h = absurd (true≢false e)
+add-past (inf s) nan e h = elim h [ ]
+add-past (inf s) (inf _) e h = elim h [ ]
 
 live-add : (x y : Float) → Live x → Plain y → Live (add binary64 x y)
 live-add x y l p = record { is-f64 = add-fits binary64 x y; not-minus = go (finite x) refl }

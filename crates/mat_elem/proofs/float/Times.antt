@@ -32,6 +32,8 @@ mul_is s m e t n d = refl
 
 mul-by-zero : (z : Bool) (y : Float) → T (finite y) → (u : Bool) × (mul binary64 y (zero_of z) ≡ zero_of u)
 mul-by-zero z (fin s m e) h = (unlike s z, mul_is s m e z 0 (pos 0) ∙ rw (mul-zero, mul-one) (round-zero (unlike s z) (down e) (down_pos e)))
+mul-by-zero z nan h = elim h [ ]
+mul-by-zero z (inf _) h = elim h [ ]
 
 signed : Bool → Float → Float
 signed true y = neg y
@@ -60,6 +62,8 @@ mul-by-one : (y : Float) → T (finite y) → T (fits binary64 y) → (t : Bool)
 mul-by-one (fin s zero e) h k t = ap (λ (z : Float). mul binary64 z (one_f t)) (zero_is binary64 s e k) ∙ zero-signs s t ∙ ap (signed t) (sym (zero_is binary64 s e k))
 mul-by-one (fin s (suc m) e) h k t =
     mul_is s (suc m) e t 1 (pos 0) ∙ rw (mul-one, mul-one) (round-own binary64 (unlike s t) m e (other_sign binary64 s (unlike s t) (suc m) e k) ∙ unlike-signs s t (suc m) e)
+mul-by-one nan h k t = elim h [ ]
+mul-by-one (inf _) h k t = elim h [ ]
 
 -- ---- negation
 neg-plain : (y : Float) → Plain y → Plain (neg y)

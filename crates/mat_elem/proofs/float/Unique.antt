@@ -8,6 +8,7 @@ use lib.Ieee.Exact.{HasValue, round_exact}
 use lib.Ieee.Fits.{round-fits, down_pos, and_l, and_r}
 use lib.Ieee.Nearest.{div_same}
 use lib.Ieee.Bits.{of_bits-to_bits}
+use lib.Ieee.{inf, nan}
 
 -- the bits go by the sign and by the size in units of the format's smallest value
 bits_of : (f : Format) (s : Bool) (n : ℕ) → ℕ
@@ -31,6 +32,10 @@ unique f (fin t m e) (fin u n d) s a c C p q v w =
     sym (of_bits-to_bits f (fin t m e) p)
     ∙ ap (of_bits f) (bits_is f t m e ∙ ap (λ (b : Bool). bits_of f b (m * up e * 2 ^ low f / down e)) (v.0 ∙ sym w.0) ∙ ap (bits_of f u) same ∙ sym (bits_is f u n d))
     ∙ of_bits-to_bits f (fin u n d) q
+unique f nan y s a c C p q v w = elim v [ ]
+unique f (inf _) y s a c C p q v w = elim v [ ]
+unique f (fin t m e) nan s a c C p q v w = elim w [ ]
+unique f (fin t m e) (inf _) s a c C p q v w = elim w [ ]
 
 -- ---- a value in units of the smallest one
 pow_le_back : (a l : ℕ) → 2 ^ a ≤ 2 ^ l → a ≤ l

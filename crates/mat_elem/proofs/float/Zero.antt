@@ -6,6 +6,7 @@ use lib.Ieee.Scale.{finite}
 use lib.Ieee.Fits.{up_pos}
 use Rattle.mat_elem.specs.float.Product.{not_minus_zero}
 use Rattle.mat_elem.proofs.float.Unique.{unique, round-own}
+use lib.Ieee.{inf, nan}
 
 abbrev pub zero_of : Bool → Float
 zero_of s = fin s 0 (pos 0)
@@ -60,6 +61,9 @@ add-either f (fin false (suc m) e) h n s t =
 add-either f (fin true (suc m) e) h n s t =
     with-zero-r f true (suc m) e s ∙ sum-zero-r f true s (suc m * up e) (down e) (size-pos m e)
     ∙ sym (sum-zero-r f true t (suc m * up e) (down e) (size-pos m e)) ∙ sym (with-zero-r f true (suc m) e t)
+add-either f nan h n s t = elim h [ ]
+add-either f (inf _) h n s t = elim h [ ]
+add-either f (fin true zero e) h n s t = elim n [ ]
 
 -- ---- the same number, or two zeros
 pub data Near : Float → Float → Type 0 where
@@ -91,6 +95,8 @@ is-r t m e k s = with-zero-r binary64 t (suc m) e s ∙ sum-zero-r binary64 t s 
 pub near-r : (y : Float) → T (finite y) → T (fits binary64 y) → (s : Bool) → Near (add binary64 y (zero_of s)) y
 near-r (fin t zero e) h k s = rw (zero_is binary64 t e k, (two-zeros t s).1) zeros
 near-r (fin t (suc m) e) h k s = subst (λ (z : Float). Near z (fin t (suc m) e)) (sym (is-r t m e k s)) same
+near-r nan h k s = elim h [ ]
+near-r (inf _) h k s = elim h [ ]
 
 is-l : (t : Bool) (m : ℕ) (e : ℤ) → T (fits binary64 (fin t (suc m) e)) → (s : Bool) → add binary64 (zero_of s) (fin t (suc m) e) ≡ fin t (suc m) e
 is-l t m e k s = with-zero-l binary64 t (suc m) e s ∙ sum-zero-l binary64 s t (suc m * up e) (down e) (size-pos m e) ∙ round-own binary64 t m e k
@@ -98,3 +104,5 @@ is-l t m e k s = with-zero-l binary64 t (suc m) e s ∙ sum-zero-l binary64 s t 
 pub near-l : (y : Float) → T (finite y) → T (fits binary64 y) → (s : Bool) → Near (add binary64 (zero_of s) y) y
 near-l (fin t zero e) h k s = rw (zero_is binary64 t e k, (two-zeros s t).1) zeros
 near-l (fin t (suc m) e) h k s = subst (λ (z : Float). Near z (fin t (suc m) e)) (sym (is-l t m e k s)) same
+near-l nan h k s = elim h [ ]
+near-l (inf _) h k s = elim h [ ]

@@ -1,0 +1,37 @@
+-- At a number the answer is that number (`refusing`); where there is none the set is sound and both rows are among its rows (`both_small`), and the
+-- answer is the worker's (`passing`).
+use mathlib.Core.Path.{refl, ap, ◌∙◌}
+use Prim.Native.Nat.{ℕ}
+use Rattle.pauli.specs.Rows.{phase_of}
+use Rattle.encoding.specs.Set.{mem_of, rows_held, rows_of}
+use Rattle.encoding.proofs.Faults.{refusing, passing}
+use Rattle.encoding.proofs.Memory.{bare-sound}
+use Rattle.cmpnt_list.specs.Calls.{phase_of_mul, phase_or}
+use Rattle.cmpnt_list.specs.declared.Phase.TheVariants as phase
+use Rattle.cmpnt_list.proofs.Tests.{both_small}
+use Rattle.cmpnt_list.proofs.phase_of_mul.Goals as goal
+
+pub returns-then-f-ne0 : goal.returns-then-f-ne0
+unfolding phase_of_mul
+returns-then-f-ne0 c =
+    let a = c.args in
+    let M = mem_of a.m a.x.now a.z.now a.phases.now in
+    refusing phase.Refused (λ (k : ℕ). phase_or k (phase_of a.n (rows_of a.n M a.a.0) (rows_of a.n M a.b.0))) (λ k. refl) c.row_fault-f.ensures.value c.if-f-ne0.true
+
+pub phase_rows-requires : goal.phase_rows-requires
+phase_rows-requires c =
+    let a = c.args in
+    let m = a.m in
+    let k = c.row_fault-f.ensures.readable c.if-f-ne0.false in
+    record {
+      sound = bare-sound k.ready;
+      a_lt_m = both_small m a.a.0 m a.b.0 k.small;
+    }
+
+pub returns : goal.returns
+unfolding phase_of_mul rows_held
+returns c =
+    let a = c.args in
+    let M = mem_of a.m a.x.now a.z.now a.phases.now in
+    ap (λ (e : ℕ). phase.Exponent (record { 0 = e })) c.phase_rows.ensures
+    ∙ passing (λ (k : ℕ). phase_or k (phase_of a.n (rows_of a.n M a.a.0) (rows_of a.n M a.b.0))) c.row_fault-f.ensures.value c.if-f-ne0.false
