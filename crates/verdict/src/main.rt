@@ -183,8 +183,7 @@ fn read_more(rt: &HostRuntime, buf: &mut [u8], done: usize) -> usize
     read_some(rt, &mut buf[done..])
 }
 
-// Standard input, as it comes, to its end or until the buffer is full. `read_to_end` keeps them on the heap, of which the program
-// has none.
+// Standard input, as it comes, to its end or until the buffer is full. `read_to_end` would put it on the heap.
 fn read_input(rt: &HostRuntime, buf: &mut [u8]) -> usize
     ensures { result ≤ length buf.old }
 {
