@@ -1,9 +1,9 @@
 // Lines out of standard input and answers into standard output. Answers are written out before any read, which may wait: whoever asks
 // line by line has the answers to all lines that came.
-ghost use Rattle.std.specs.Prelude.{◌≤◌, ◌<◌, length};
+ghost use Rattle.std.specs.Prelude.{◌+◌, ◌≤◌, ◌<◌, length, IfOk};
 
 use crate::{ANSWER, LINE, TERMS, line};
-use libc::{STDERR_FILENO, STDIN_FILENO, STDOUT_FILENO};
+use std::io::{self, ErrorKind, Read};
 use text::Put;
 
 // Bytes that one read asks for; as many bytes of answers wait at most before they are written.
@@ -37,8 +37,8 @@ fn over() -> Feed
 }
 
 // The program ends, and says why.
-fn give_up(why: &[u8]) -> Feed {
-    io::write_all(STDERR_FILENO, why);
+fn give_up(rt: &HostRuntime, why: &[u8]) -> Feed {
+    let _ = rt.stderr().write_all(why);
     over()
 }
 
@@ -62,14 +62,14 @@ fn line_end(buf: &[u8], from: usize, end: usize) -> usize {
 }
 
 // What waits is written out.
-fn flush(out: &[u8], n: usize) -> bool {
+fn flush(rt: &HostRuntime, out: &[u8], n: usize) -> io::Result<()> {
     let k = least(n, out.len());
-    io::write_all(STDOUT_FILENO, &out[0..k])
+    rt.stdout().write_all(&out[0..k])
 }
 
-fn flushed(out: &[u8], f: Feed) -> Feed {
-    if !flush(out, f.waiting) {
-        return give_up(b"calls: the answers cannot be written\n");
+fn flushed(rt: &HostRuntime, out: &[u8], f: Feed) -> Feed {
+    if flush(rt, out, f.waiting).is_err() {
+        return give_up(rt, b"calls: the answers cannot be written\n");
     }
     Feed {
         whole: false,
@@ -114,12 +114,15 @@ fn cut(buf: &mut [u8], n: usize) -> usize
     2
 }
 
-fn read_at(buf: &mut [u8], n: usize) -> isize {
+// Behind what stands before n; how many bytes came, 0 at the end of the input.
+fn read_at(rt: &HostRuntime, buf: &mut [u8], n: usize) -> io::Result<usize>
+    ensures { IfOk result (λ k. n + k ≤ length buf.old) }
+{
     if n < buf.len() {
         let e = n + least(CHUNK, buf.len() - n);
-        return libc::read(STDIN_FILENO, &mut buf[n..e]);
+        return rt.stdin().read(&mut buf[n..e]);
     }
-    -1
+    Err(ErrorKind::InvalidInput.into())
 }
 
 // The end of the input ends the last line too.
@@ -142,17 +145,15 @@ fn ended(buf: &mut [u8], n: usize) -> Feed {
     }
 }
 
-fn refill(buf: &mut [u8; LINE], f: Feed) -> Feed {
+fn refill(rt: &HostRuntime, buf: &mut [u8; LINE], f: Feed) -> Feed {
     let k = shift(buf, f.start, f.end);
     let n = cut(buf, k);
-    let got = read_at(buf, n);
-    if got < 0 {
-        return give_up(b"calls: the input cannot be read\n");
-    }
-    if got == 0 {
+    let Ok(more) = read_at(rt, buf, n) else {
+        return give_up(rt, b"calls: the input cannot be read\n");
+    };
+    if more == 0 {
         return ended(buf, n);
     }
-    let more = io::count(got, buf);
     Feed {
         whole: false,
         start: 0,
@@ -167,18 +168,18 @@ fn refill(buf: &mut [u8; LINE], f: Feed) -> Feed {
 // ---- a line
 
 // The line at hand: the next one that is whole, or an empty one when more was read.
-fn next(buf: &mut [u8; LINE], out: &[u8; ANSWER], f: Feed) -> Feed
+fn next(rt: &HostRuntime, buf: &mut [u8; LINE], out: &[u8; ANSWER], f: Feed) -> Feed
     ensures { (result.start ≤ result.stop) × (result.stop ≤ 3500000) }
 {
     let e = line_end(buf, f.scan, f.end);
     if e < f.end {
         return at_hand(f, e);
     }
-    let g = flushed(out, f);
+    let g = flushed(rt, out, f);
     if g.over {
         return nothing(g);
     }
-    nothing(refill(buf, g))
+    nothing(refill(rt, buf, g))
 }
 
 fn at_hand(f: Feed, e: usize) -> Feed
@@ -218,21 +219,21 @@ fn nothing(f: Feed) -> Feed
 
 // Behind the line at hand, whose answer was written or did not fit. One that does not fit behind those that wait is made again when they are
 // out.
-fn settled(out: &[u8; ANSWER], f: Feed, r: Put) -> Feed {
+fn settled(rt: &HostRuntime, out: &[u8; ANSWER], f: Feed, r: Put) -> Feed {
     if f.over {
         return f;
     }
     if !r.ok {
         if f.waiting == 0 {
-            return give_up(b"calls: an answer is too long\n");
+            return give_up(rt, b"calls: an answer is too long\n");
         }
-        return flushed(out, f);
+        return flushed(rt, out, f);
     }
     let g = past(f, r.at);
     if r.at < CHUNK {
         return g;
     }
-    flushed(out, g)
+    flushed(rt, out, g)
 }
 
 fn past(f: Feed, waiting: usize) -> Feed {
@@ -261,6 +262,7 @@ fn past(f: Feed, waiting: usize) -> Feed {
 
 // Line by line to the end of the input. Nothing says that an input ends; no input has as many lines as there are turns.
 pub(crate) fn run(
+    rt: &HostRuntime,
     buf: &mut [u8; LINE],
     out: &mut [u8; ANSWER],
     tx: &mut [u64; TERMS],
@@ -285,7 +287,7 @@ pub(crate) fn run(
         if f.over {
             return;
         }
-        f = next(buf, out, f);
+        f = next(rt, buf, out, f);
         let r = line::answer(
             buf,
             f.start,
@@ -302,6 +304,6 @@ pub(crate) fn run(
                 at: f.waiting,
             },
         );
-        f = settled(out, f, r);
+        f = settled(rt, out, f, r);
     }
 }

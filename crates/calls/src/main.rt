@@ -48,7 +48,7 @@ pub(crate) const LINE: usize = 3500000;
 pub(crate) const ANSWER: usize = 900000;
 
 // The long arrays are made here, once, and lent; those of sets, lists and logs are made for the line that has them.
-fn main() {
+fn main(rt: HostRuntime) {
     let mut buf = [0u8; LINE];
     let mut out = [0u8; ANSWER];
     let mut tx = [0u64; TERMS];
@@ -58,6 +58,6 @@ fn main() {
     let mut fre = [0.0f64; TERMS];
     let mut fim = [0.0f64; TERMS];
     feed::run(
-        &mut buf, &mut out, &mut tx, &mut tz, &mut re, &mut im, &mut fre, &mut fim,
+        &rt, &mut buf, &mut out, &mut tx, &mut tz, &mut re, &mut im, &mut fre, &mut fim,
     );
 }

@@ -89,7 +89,7 @@ fn called(
     out: &mut [u8],
     r: Put,
 ) -> Put
-    ensures { Answers (on_set c n (mem_of m x.old z.old p.old) (drop at s.now)) out.old r out.new result }new result }
+    ensures { Answers (on_set c n (mem_of m x.old z.old p.old) (drop at s.now)) out.old r out.new result }
 {
     match c {
         OnSet::Two(k) => rows::two(k, s, at, n, m, x, z, p, out, r),

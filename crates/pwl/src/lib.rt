@@ -15,7 +15,7 @@ pub use reading::read;
 pub use writing::write;
 
 // The numbers in front of a file: n, m, and how many columns, listed rows, extra rows and log entries it has.
-#[derive(Drop)]
+#[derive(Clone, Copy)]
 pub struct Front {
     pub n: usize,
     pub m: usize,
@@ -26,7 +26,7 @@ pub struct Front {
 }
 
 // Where the parts begin, in bytes, and how many words an X or Z part and a phase part have.
-#[derive(Drop)]
+#[derive(Clone, Copy)]
 pub(crate) struct Places {
     pub(crate) listed: usize,
     pub(crate) extra: usize,

@@ -51,6 +51,7 @@ row_is = refl
 
 only : (j : ℕ) → In j (0 ∷ []) → j ≡ 0
 only j (inl e) = e
+only j (inr e) = elim e [ ]
 
 listed-is : (j : ℕ) → In j (0 ∷ []) → σ j ≡ record { ps = Z ∷ []; p = 0 }
 listed-is j h = ap σ (only j h) ∙ row_is

@@ -9,9 +9,9 @@ ghost use Rattle.pwl.specs.Calls.{run_lines, outputs};
 ghost use Rattle.verdict.specs.Verdict.{answer_on, text_of};
 ghost use Rattle.verdict.specs.Workers.{Room, Ended, run_in, TakenOf, made, TakenFrom, TakenIn, Judges, Says, Answers};
 
-use libc::{STDIN_FILENO, STDOUT_FILENO};
 use pwl::{Front, Opened};
 use replay::Verdict;
+use std::io::Read;
 
 // The longest input that gets a verdict.
 const MOST: usize = 16384;
@@ -166,28 +166,31 @@ fn take(
 }
 
 // One read of standard input into a part; how many bytes it gave, 0 at its end.
-fn read_some(part: &mut [u8]) -> usize
+fn read_some(rt: &HostRuntime, part: &mut [u8]) -> usize
     ensures { result ≤ length part.old }
 {
-    io::count(libc::read(STDIN_FILENO, part), part)
+    match rt.stdin().read(part) {
+        Ok(n) => n,
+        Err(_) => 0,
+    }
 }
 
 // The same behind what was read before.
-fn read_more(buf: &mut [u8], done: usize) -> usize
+fn read_more(rt: &HostRuntime, buf: &mut [u8], done: usize) -> usize
     requires { done ≤ length buf.old }
     ensures { done + result ≤ length buf.old }
 {
-    read_some(&mut buf[done..])
+    read_some(rt, &mut buf[done..])
 }
 
-// Standard input, as it comes, to its end or until the buffer is full. `io::read_full` has a buffer of its own, for which there is no room.
-fn read_input(buf: &mut [u8]) -> usize
+// Standard input, as it comes, to its end or until the buffer is full. `read_to_end` would put it on the heap.
+fn read_input(rt: &HostRuntime, buf: &mut [u8]) -> usize
     ensures { result ≤ length buf.old }
 {
     let end = buf.len();
     let mut done = 0;
     while done < end {
-        let k = read_more(buf, done);
+        let k = read_more(rt, buf, done);
         if k == 0 {
             return done;
         }
@@ -198,6 +201,7 @@ fn read_input(buf: &mut [u8]) -> usize
 
 // Standard input into the outputs. Its bytes are not kept.
 fn take_in(
+    rt: &HostRuntime,
     units: &mut [u16; UNITS],
     x: &mut [u64; WORDS],
     z: &mut [u64; WORDS],
@@ -207,7 +211,7 @@ fn take_in(
     ensures { TakenIn (outputs units.old x.old z.old p.old claimed.old) (outputs units.new x.new z.new p.new claimed.new) result }
 {
     let mut buf = [0u8; MOST + 1];
-    let got = read_input(&mut buf);
+    let got = read_input(rt, &mut buf);
     take(&buf[0..got], units, x, z, p, claimed)
 }
 
@@ -284,14 +288,14 @@ fn put_line(
     put_verdict(out, v)
 }
 
-fn main() {
+fn main(rt: HostRuntime) {
     let mut units = [0u16; UNITS];
     let mut x = [0u64; WORDS];
     let mut z = [0u64; WORDS];
     let mut p = [0u64; PHASES];
     let mut claimed = [0u64; CLAIMED];
     let mut line = [0u8; LINE];
-    let t = take_in(&mut units, &mut x, &mut z, &mut p, &mut claimed);
+    let t = take_in(&rt, &mut units, &mut x, &mut z, &mut p, &mut claimed);
     let n = put_line(&mut line, t, &units, &mut x, &mut z, &mut p, &claimed);
-    io::write_all(STDOUT_FILENO, &line[0..n]);
+    let _ = rt.stdout().write_all(&line[0..n]);
 }

@@ -1,0 +1,15 @@
+-- What is left of the list has no number twice and finds no mark exactly when the whole list has no number twice (`Marking`, of the lists in memory):
+-- the bits, spread out, are the marks of those lists, and a bit that is set is one of these set.
+use mathlib.Core.Path.{◌≡◌}
+use Prim.Native.Nat.{◌-◌, ◌≤◌}
+use lib.ListN.{length, drop}
+use Rattle.pwl.specs.Bytes.{nums}
+use Rattle.terms.proofs.Scans.{Marking}
+use Rattle.pwl.proofs.Marks.{spread}
+use Rattle.pwl.proofs.testing.marked_twice.Given as goal
+
+abbrev pub invariant-loop-i : goal.invariant-loop-i
+invariant-loop-i l = (l.i ≤ l.count) × (length l.marks ≡ length l.initial.marks) × Marking (nums 2 l.count (drop l.at l.s)) l.i (spread l.marks)
+
+abbrev pub decreases-loop-i : goal.decreases-loop-i
+decreases-loop-i l = l.count - l.i
