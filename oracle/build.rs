@@ -1,8 +1,8 @@
-//! Lays the given Rust files and the stand-ins for the missing ones out as one tree of links, so that the given
-//! files are compiled as they stand. The folder of the given files is named by ZIXY_SRC.
+//! Lays copies of the given Rust files and of the stand-ins for the missing ones out as one tree, so that the given
+//! files are compiled as they stand. The folder of the given files is named by ZIXY_SRC. They are copies and no links,
+//! since `rt ci` refuses a repository with a link in it, below target/ too.
 
 use std::fs;
-use std::os::unix::fs::symlink;
 use std::path::{Path, PathBuf};
 
 fn main() {
@@ -11,9 +11,9 @@ fn main() {
     let out = PathBuf::from(std::env::var("OUT_DIR").unwrap());
     let tree = out.join("zixy");
     let _ = fs::remove_dir_all(&tree);
-    link_all(&given.join("zixy/src"), &tree);
-    // A given file is never replaced: link_all leaves what is there.
-    link_all(&here.join("stand-ins/modules"), &tree);
+    copy_all(&given.join("zixy/src"), &tree);
+    // A given file is never replaced: copy_all leaves what is there.
+    copy_all(&here.join("stand-ins/modules"), &tree);
     let list: String = ["cmpnt", "container", "qubit", "utils"].iter().map(|m| module(&tree, m)).collect();
     fs::write(out.join("modules.rs"), list).unwrap();
     println!("cargo:rerun-if-env-changed=ZIXY_SRC");
@@ -24,17 +24,17 @@ fn module(tree: &Path, name: &str) -> String {
     format!("#[path = {:?}]\npub mod {};\n", tree.join(name).join("mod.rs"), name)
 }
 
-fn link_all(from: &Path, to: &Path) {
+fn copy_all(from: &Path, to: &Path) {
     fs::create_dir_all(to).unwrap();
     println!("cargo:rerun-if-changed={}", from.display());
     for entry in fs::read_dir(from).unwrap_or_else(|e| panic!("{}: {e}", from.display())) {
         let path = entry.unwrap().path();
         let target = to.join(path.file_name().unwrap());
         if path.is_dir() {
-            link_all(&path, &target);
+            copy_all(&path, &target);
         } else if !target.exists() {
             println!("cargo:rerun-if-changed={}", path.display());
-            symlink(&path, &target).unwrap();
+            fs::copy(&path, &target).unwrap();
         }
     }
 }

@@ -1,8 +1,13 @@
 # shellcheck shell=bash
-# Sourced by ../compare-runs, ../measure and fooled: builds packages of the workspace at the top, with the given Rust files where they are there.
+# Sourced by ../compare-runs, ../measure, ../bindings/run, fooled and fuzz-verdict: builds packages of the workspace at the top, with the given Rust
+# files where they are there.
 # Wants `here`, the repository's folder; `asked_from`, where the command was called; `said`, how its lines begin. What is missing is said in one line.
 # Cargo is run on a copy and with a home of its own, so that all it writes lands below target/rust; the two folders of `built` and `timed` have
-# the programs of the profiles that compare and that measure.
+# the programs of the profiles that compare and that measure. `rt ci` refuses a repository with a link in it, or with a .rt or .antt file outside of the
+# crates, below target/ too: what needs such files makes them in a folder outside.
+root=$here
+# shellcheck source=tools/made.sh
+. "$here/tools/made.sh"
 rust=$here/target/rust
 built=$rust/build/checked
 timed=$rust/build/release
@@ -53,18 +58,23 @@ need() { # PACKAGE PROFILE [WORD...]
 # The library in the process that compares, where this machine can link its archive: sets `archive`, what `compare` is told of it, and where that is
 # `-`, `without`, why.
 find_archive() {
-    local file=$here/target/staticlib/libbawersun.a
     archive=- without=
     if [ "$(uname -m)" != x86_64 ]; then
         without="it links only into x86-64 programs"
-    elif ! [ -e "$file" ]; then
-        without="it is not built (rt staticlib bawersun)"
-    elif [ -n "$(find "$here/crates" "$here/crates.txt" -newer "$file" -print -quit)" ]; then
-        without="it is older than the crates (rt staticlib bawersun)"
+    elif ! [ -e "$archive_file" ]; then
+        without="it is not built (rt lib in crates/bawersun)"
+    elif ! is_new bawersun "$archive_file"; then
+        without="it is older than the crates (rt lib in crates/bawersun)"
     else
         archive=archive
-        export BAWERSUN_ARCHIVE=${file%/*}
+        export BAWERSUN_ARCHIVE=${archive_file%/*}
     fi
+}
+
+# Proves the crate and writes its archive for x86-64, where that is not as new as the crates, or says why not and ends.
+make_archive() {
+    mkdir -p "$here/target"
+    is_new bawersun "$archive_file" || make_by_rt bawersun "$archive_file" lib >"$here/target/archive.log" 2>&1 || { cat "$here/target/archive.log"; exit 1; }
 }
 
 # The comparer, with the archive where it can be had.

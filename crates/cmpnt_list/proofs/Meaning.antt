@@ -31,7 +31,7 @@ use Rattle.encoding.proofs.Parts.{length-list, get_or-list}
 use Rattle.pauli.proofs.Lists.{length-each}
 use Rattle.pauli.proofs.OnQubits.{take_same}
 use Rattle.pauli.proofs.RowLaws.{pad-mul}
-use Rattle.encoding.specs.declared.Answer.TheVariants.{Done, Refused}
+use Rattle.encoding.specs.declared.Answer.TheVariants.{Done}
 use Rattle.encoding.proofs.BitLaws.{bit-lay}
 use Rattle.encoding.proofs.States.{state-long, length-state, state-back}
 use Rattle.encoding.proofs.Exponents.{exponent_small}

@@ -5,7 +5,7 @@ use Prim.Native.Nat.{◌/◌, ◌%◌}
 use lib.ListN.{drop_of_length-le}
 use lib.Seq.{drop-cons}
 use native.Mathlib.Numerals.{add-one}
-use Rattle.text.specs.Numbers.{digits, numeral, glyph}
+use Rattle.text.specs.Numbers.{digits, numeral}
 use Rattle.text.proofs.Writing.{size_small}
 use Rattle.forms.specs.Answers.{octets_text}
 

@@ -1,6 +1,6 @@
 -- A log as pairs: as many as half of its units, and pair i is of units 2i and 2i + 1.
 -- Assumes nothing.
-use Rattle.forms.proofs.Kit.{◌≡◌, refl, sym, ap, ◌∙◌, List, [], ◌∷◌, ℕ, ◌+◌, ◌*◌, ◌<◌, ◌≤◌, arith, length, get_or, take}
+use Rattle.forms.proofs.Kit.{◌≡◌, refl, sym, ap, ◌∙◌, List, [], ◌∷◌, ℕ, ◌+◌, ◌*◌, ◌<◌, arith, length, get_or}
 use Prim.Native.Nat.{zero, suc, ◌/◌}
 use Rattle.forms.specs.Answers.{pairs_of}
 

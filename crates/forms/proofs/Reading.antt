@@ -1,6 +1,6 @@
 -- Fields read one after the other: a reader behind another reads the fields of both, and a line ends where its last field ends.
 -- By cases on what each reader answers. Assumes nothing.
-use Rattle.forms.proofs.Kit.{◌≡◌, refl, sym, ap, ◌∙◌, Bool, true, false, cond, ◌&&◌, List, [], ◌∷◌, ◌++◌, ℕ, ◌+◌, ◌<◌, ◌≤◌, arith, length, get_or, drop, take}
+use Rattle.forms.proofs.Kit.{◌≡◌, refl, ap, ◌∙◌, Bool, true, false, cond, ◌&&◌, List, [], ◌∷◌, ◌++◌, ℕ, ◌+◌, ◌<◌, ◌≤◌, arith, length, get_or, drop, take}
 use borrow.Author.Tests.{eqb-true, eqb-false, eq-eqb, ne_eqb}
 use lib.Dec.{eqb}
 use lib.ListN.{drop_of_length-le}
@@ -13,7 +13,7 @@ use Rattle.forms.specs.Workers.{Names}
 use Rattle.forms.specs.declared.read.Letter.{Letter}
 use Rattle.text.specs.Readers.{Got, none, got, answer, Reads, mapped}
 use Rattle.text.specs.Lists.{Fills}
-use Rattle.text.specs.Lines.{Kind, Value, Values, read, field, field_of, joined_by, further, fields, last}
+use Rattle.text.specs.Lines.{Kind, Value, Values, read, field, joined_by, further, fields, last}
 
 -- a list is read as any field is
 pub filled : {A : Type 0} {r : ℕ → List ℕ → Got (List A)} {s : List ℕ} {at : ℕ} {o p : List A} {ok : Bool} {count next : ℕ} → Fills r s at o p ok count next → Reads (r (length o)) s at ok (take count p) next

@@ -1,5 +1,5 @@
 -- The answers of docs/CALLS.md as bytes.
-use Rattle.std.specs.Prelude.{Bool, cond, List, [], ◌∷◌, ◌++◌, ℕ, ◌*◌, take, ℤ, Float}
+use Rattle.std.specs.Prelude.{cond, List, [], ◌∷◌, ◌++◌, ℕ, ◌*◌, take, ℤ, Float}
 use Prim.Native.Char.{code}
 use Prim.Native.String as str
 use Rattle.pauli.specs.declared.PauliMatrix.{PauliMatrix}

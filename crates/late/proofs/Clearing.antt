@@ -9,7 +9,7 @@ use native.Mathlib.Omega.{arith}
 use lib.ListN.{take}
 use lib.Pow.{pow_pos}
 use Rattle.pauli.specs.Row.{Row, mul_row, bit_row}
-use Rattle.encoding.specs.Set.{Mem, count, rows_of}
+use Rattle.encoding.specs.Set.{Mem, rows_of}
 use Rattle.reduction.specs.Rule.{Run}
 use Rattle.reduction.specs.Capacity.{Reduced}
 use Rattle.reduction.specs.Log.{pairs, capacity}

@@ -20,7 +20,7 @@ use Rattle.reduction.specs.Workers.{and_then, through, turn_c, lead_c, pivot_c, 
 use Rattle.reduction.proofs.Run.{found_left}
 use Rattle.reduction.proofs.Pieces.{At, pivot-at}
 use Rattle.reduction.proofs.Places.{from_some, from-none}
-use Rattle.tabled.specs.Workers.{Lazy, going, row_of, settle, Meets, goes, stops, Led, Clearing, Within}
+use Rattle.tabled.specs.Workers.{Lazy, row_of, settle, Meets, goes, stops, Led, Clearing, Within}
 use Rattle.tabled.proofs.Steps.{all_paid}
 use Rattle.late.specs.declared.clear.Late.{Late}
 use Rattle.late.specs.Workers.{lazy_of, PaidAll, table_rows, block_pivots, Store, store, late_of, held_by, held_of, Shape, Carries, Runs, Sees, Reads, seen_bit, FreezeIn, PivotIn, SearchIn, rows_paid, Found, ColumnIn, BeginIn, Began, StepIn, StartIn, begun, run_of, outcome, start, Does}

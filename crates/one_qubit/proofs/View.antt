@@ -1,7 +1,7 @@
 -- The leaf over a row set: the bits read are those of the row's Pauli, and turning them gives the memory laid from the rows with that Pauli turned. A qubit
 -- is given by its bits, which lie at bit q mod 64 of word r w + q div 64; a bit that is not the qubit's is the old one. Assumes nothing.
 use mathlib.Core.Path.{◌≡◌, refl, sym, ap, ap₂, ◌∙◌, subst}
-use mathlib.Core.Bool.{Bool, true, false, cond}
+use mathlib.Core.Bool.{Bool, false}
 use mathlib.Core.List.{List, []}
 use Prim.Native.Nat.{ℕ, ◌+◌, ◌*◌, ◌/◌, ◌%◌, ◌<◌}
 use native.Mathlib.Nat.{div-add-mod'}

@@ -1,12 +1,11 @@
 -- What writing a file leaves: a run that the table passed is as long as its front says, so that the front's length is that of the image.
 -- So 14 of the output is 19 of its length, by the one test of lengths. Assumes nothing.
 use Rattle.pwl.proofs.Kit.{◌≡◌, refl, sym, ap, ◌∙◌, subst, Bool, true, false, cond, List, [], ◌∷◌, ◌++◌, ℕ, zero, suc, ◌+◌, ◌*◌, ◌/◌, ◌%◌, ◌≤◌, arith, ltb, ltb-true, ltb-false, lt-ltb, le-ltb, length, drop}
-use native.Mathlib.Nat.{suc-ne-zero}
 use borrow.Author.Tests.{eqb-false}
 use Rattle.encoding.specs.Words.{odd}
 use Rattle.encoding.specs.Refusals.{left_or}
 use Rattle.encoding.specs.Ranks.{by_rank, place_in, placed, joined}
-use Rattle.encoding.proofs.Faults.{or_else, or-none, or-first, not-large, kept}
+use Rattle.encoding.proofs.Faults.{or_else, or-first, kept}
 use Rattle.encoding.proofs.Ranks.{counted, rank-append}
 use Rattle.encoding.proofs.Exponents.{laid-long}
 use Rattle.replay.specs.Check.{Passed}

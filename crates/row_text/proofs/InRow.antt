@@ -1,6 +1,6 @@
 -- Words that hold the Paulis read so far: none at first, one more with each letter; at the end the first words of them are the row's. The row is put into
 -- its set: its words are what its Paulis pack to, and every other row's words are as they were.
-use Rattle.row_text.proofs.Kit.{◌≡◌, refl, sym, ap, ap₂, ◌∙◌, subst, Bool, true, false, cond, false≢true, List, [], ◌∷◌, ℕ, zero, suc, ◌+◌, ◌*◌, ◌-◌, ◌<◌, ◌≤◌, arith, ℕ_discrete, eq-eqb, ne_eqb, length, get_or, take, drop, set, length-set, ext_get_or, get_or-take, get_or-set_same, get_or-set_other, Pauli, I, X, Z, has_x, has_z, by}
+use Rattle.row_text.proofs.Kit.{◌≡◌, refl, sym, ap, ap₂, ◌∙◌, subst, Bool, true, false, cond, false≢true, List, [], ◌∷◌, ℕ, zero, suc, ◌+◌, ◌*◌, ◌-◌, ◌<◌, ◌≤◌, arith, ℕ_discrete, eq-eqb, ne_eqb, length, get_or, take, drop, set, length-set, ext_get_or, get_or-take, get_or-set_same, get_or-set_other, Pauli, I, has_x, has_z, by}
 use lib.ListN.{replicate}
 use lib.Seq.{length-take-le}
 use borrow.Rule.Slice.PartMut.{put_mid, put_same}

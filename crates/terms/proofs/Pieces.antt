@@ -13,7 +13,7 @@ use Rattle.pauli.specs.Row.{mul_row, bit_row}
 use Rattle.encoding.specs.Set.{Mem, count, rows_of}
 use Rattle.reduction.specs.Rule.{counted, first}
 use Rattle.reduction.specs.Log.{capacity}
-use Rattle.reduction.specs.Capacity.{done, full}
+use Rattle.reduction.specs.Capacity.{done}
 use Rattle.reduction.specs.Workers.{and_then, multiply_c, turn_c, lead_c, pivot_c, column_by_c, column_c}
 use Rattle.reduction.proofs.Pieces.{At, pivot-at}
 use Rattle.late.specs.declared.Progress.{Progress}

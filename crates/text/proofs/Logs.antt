@@ -1,6 +1,6 @@
 -- A log that is written in pairs is read back, and one without a colon behind its first number is read as any list is.
 -- A pair is read in two turns: its first number ends at the colon, its second at a comma or where the log does.
-use Rattle.text.proofs.Kit.{◌≡◌, refl, ap, ◌∙◌, true, false, List, [], ◌∷◌, ◌++◌, append_assoc, ℕ, zero, suc, ◌+◌, ◌*◌, ◌^◌, ◌<◌, ◌≤◌, arith, le-ltb, length}
+use Rattle.text.proofs.Kit.{◌≡◌, ap, ◌∙◌, true, false, List, [], ◌∷◌, ◌++◌, append_assoc, ℕ, zero, suc, ◌*◌, ◌^◌, ◌<◌, ◌≤◌, arith, le-ltb, length}
 use Rattle.text.specs.Readers.{Got, got, starts}
 use Rattle.text.specs.Numbers.{digit_of, numeral, number, Stops}
 use Rattle.text.specs.Lists.{joined, listed, items_of, colon, dash, list, log}

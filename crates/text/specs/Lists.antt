@@ -1,5 +1,5 @@
 -- Lists: items with commas between them, `-` for none; and logs, in pairs with colons (`0:1,1:0`) or flat.
-use Rattle.std.specs.Prelude.{◌≡◌, Bool, true, false, cond, not, ◌&&◌, List, [], ◌∷◌, ◌++◌, ℕ, zero, suc, ◌≤◌, length, take, drop}
+use Rattle.std.specs.Prelude.{◌≡◌, Bool, false, cond, not, ◌&&◌, List, [], ◌∷◌, ◌++◌, ℕ, zero, suc, ◌≤◌, length, take, drop}
 use Rattle.text.specs.Readers.{Got, none, got, answer, starts}
 use Rattle.text.specs.Numbers.{no_digit}
 

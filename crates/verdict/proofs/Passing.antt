@@ -1,13 +1,11 @@
 -- What a run leaves that the table does not refuse: row sets, an order and lists. Words of eight bytes fit, so that a set that no line fits is a
 -- row set. Assumes nothing.
-use mathlib.Core.Path.{◌≡◌, refl, sym, ap, ap₂, ◌∙◌}
-use mathlib.Core.Bool.{Bool, true, false, cond}
+use mathlib.Core.Path.{◌≡◌, refl, ◌∙◌}
 use mathlib.Core.List.{List, [], ◌∷◌}
 use Prim.Native.Nat.{ℕ, zero, suc, ◌^◌, ◌<◌}
-use native.Mathlib.Nat.{suc-ne-zero}
 use native.Mathlib.Omega.{arith}
 use lib.ListN.{length}
-use Rattle.encoding.specs.Set.{Mem, count}
+use Rattle.encoding.specs.Set.{count}
 use Rattle.encoding.specs.Refusals.{set_lines}
 use Rattle.encoding.specs.Ranks.{by_rank}
 use Rattle.encoding.proofs.Memory.{valid-of}

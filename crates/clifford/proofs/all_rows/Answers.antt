@@ -1,6 +1,5 @@
 use native.Mathlib.Omega.{arith}
 use mathlib.Core.Path.{refl, ◌∙◌}
-use Prim.Native.Nat.{◌-◌}
 use Rattle.clifford.proofs.Loop.{doing-none, doing-more, doing-all}
 use Rattle.clifford.proofs.all_rows.Goals as goal
 

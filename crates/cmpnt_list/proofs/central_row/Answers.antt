@@ -1,6 +1,6 @@
 use mathlib.Core.Path.{subst, ◌≡◌, sym, ◌∙◌}
 use mathlib.Core.Bool.{Bool, true}
-use Prim.Native.Nat.{ℕ, ◌-◌, ◌<◌}
+use Prim.Native.Nat.{ℕ, ◌<◌}
 use native.Mathlib.Omega.{arith}
 use Rattle.pauli.specs.Rows.{commute, every_below, central}
 use Rattle.pauli.proofs.Every.{every-none, every_more, every-not}

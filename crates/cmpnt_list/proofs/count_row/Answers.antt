@@ -1,4 +1,3 @@
-use Prim.Native.Nat.{◌-◌}
 use Rattle.cmpnt_list.proofs.Counting.{tallied-none, tallied-more, tallied-all}
 use Rattle.cmpnt_list.proofs.count_row.Goals as goal
 

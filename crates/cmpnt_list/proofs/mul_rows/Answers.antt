@@ -3,7 +3,7 @@ use Rattle.cmpnt_list.proofs.Pairing.{written_at, no_words, written_none, next_w
 use native.Mathlib.Omega.{arith}
 use mathlib.Core.Path.{◌≡◌, refl, sym, ◌∙◌, subst}
 use native.Mathlib.Nat.{not-suc-le-zero}
-use Prim.Native.Nat.{ℕ, ◌-◌, ◌<◌}
+use Prim.Native.Nat.{ℕ, ◌<◌}
 use lib.ListN.{length-set}
 use Rattle.cmpnt_list.proofs.mul_rows.Goals as goal
 

@@ -3,7 +3,7 @@ use Rattle.cmpnt_list.specs.Workers.{word_end}
 use Rattle.cmpnt_list.proofs.Pairing.{written_at, end-in, phases-none, phases-all, all-long, row_done}
 use native.Mathlib.Omega.{arith}
 use mathlib.Core.Path.{◌≡◌, refl, sym, subst}
-use Prim.Native.Nat.{ℕ, ◌-◌, ◌/◌, ◌<◌, ◌≤◌}
+use Prim.Native.Nat.{ℕ, ◌/◌, ◌<◌, ◌≤◌}
 use Rattle.cmpnt_list.proofs.mul_word.Goals as goal
 
 pub rows_end-end-requires : goal.rows_end-end-requires

@@ -1,10 +1,9 @@
-use mathlib.Core.Bool.{false}
 use Rattle.encoding.specs.Refusals.{some_below, bad_bits}
 use Rattle.encoding.proofs.Spare.{high, rows_none, row_last}
 use Rattle.encoding.proofs.Scan.{any-more, any-hit}
 use native.Mathlib.Omega.{arith}
 use mathlib.Core.Path.{◌≡◌, refl, sym, ap, ◌∙◌}
-use Prim.Native.Nat.{ℕ, ◌-◌}
+use Prim.Native.Nat.{ℕ}
 use Rattle.std.proofs.Common.{rules}
 use Rattle.encoding.proofs.bad_bits.Goals as goal
 

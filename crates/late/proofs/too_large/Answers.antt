@@ -2,7 +2,6 @@ use Rattle.encoding.proofs.Scan.{some-hit, some_more, some_end}
 use Rattle.encoding.specs.Refusals.{too_large}
 use native.Mathlib.Omega.{arith}
 use mathlib.Core.Path.{refl, sym, ◌∙◌}
-use Prim.Native.Nat.{◌-◌}
 use borrow.Author.Tests.{le-leb, lt-leb}
 use lib.ListN.{get_or}
 use Rattle.std.proofs.Common.{rules}

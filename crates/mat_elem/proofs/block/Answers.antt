@@ -1,4 +1,4 @@
-use Rattle.std.proofs.Common.{ℕ, ◌-◌, ap₂, arith}
+use Rattle.std.proofs.Common.{ℕ, ap₂, arith}
 use Rattle.mat_elem.specs.declared.Place.{Place}
 use Rattle.mat_elem.proofs.Places.{run_none, run_more, run-stop, run_end}
 use Rattle.mat_elem.proofs.block.Goals as goal

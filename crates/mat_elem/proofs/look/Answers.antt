@@ -1,4 +1,4 @@
-use Rattle.std.proofs.Common.{◌-◌, arith}
+use Rattle.std.proofs.Common.{arith}
 use Rattle.mat_elem.proofs.Pass.{look_none, look-more, look-all}
 use Rattle.mat_elem.proofs.look.Goals as goal
 

@@ -1,5 +1,4 @@
 use native.Mathlib.Omega.{arith}
-use Prim.Native.Nat.{◌-◌}
 use Rattle.matrix.proofs.Writing.{place-lt}
 use Rattle.matrix.proofs.Adding.{adding-none, adding-more, adding-all}
 use Rattle.matrix.proofs.add.Goals as goal

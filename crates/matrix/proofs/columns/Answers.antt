@@ -1,6 +1,6 @@
 use native.Mathlib.Omega.{arith}
 use mathlib.Core.Path.{◌≡◌, refl, ◌∙◌, subst}
-use Prim.Native.Nat.{ℕ, ◌-◌, zero-le}
+use Prim.Native.Nat.{ℕ, zero-le}
 use Rattle.matrix.specs.Workers.{RightWhere, Down}
 use Rattle.matrix.proofs.Storing.{down-none}
 use Rattle.matrix.proofs.columns.Goals as goal

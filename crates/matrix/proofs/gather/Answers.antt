@@ -1,7 +1,7 @@
 use native.Mathlib.Omega.{arith}
 use mathlib.Core.Path.{refl, ap, ◌∙◌}
-use Prim.Native.Nat.{◌-◌, zero-le}
-use Rattle.matrix.specs.Workers.{item, word_at}
+use Prim.Native.Nat.{zero-le}
+use Rattle.matrix.specs.Workers.{item}
 use Rattle.matrix.proofs.Writing.{wrote_none, wrote-more, wrote-all}
 use Rattle.matrix.proofs.gather.Goals as goal
 

@@ -1,6 +1,6 @@
 use native.Mathlib.Omega.{arith}
 use mathlib.Core.Path.{◌≡◌, refl, ◌∙◌, subst}
-use Prim.Native.Nat.{ℕ, ◌-◌, zero-le}
+use Prim.Native.Nat.{ℕ, zero-le}
 use Rattle.matrix.specs.Workers.{Known, Moved}
 use Rattle.matrix.proofs.Across.{moved_none, moved_more}
 use Rattle.matrix.proofs.mirror.Goals as goal

@@ -1,6 +1,6 @@
 use native.Mathlib.Omega.{arith}
 use mathlib.Core.Path.{refl, ◌∙◌}
-use Prim.Native.Nat.{◌-◌, zero-le}
+use Prim.Native.Nat.{zero-le}
 use Rattle.matrix.proofs.Across.{moved_none, moved_more, moved-next}
 use Rattle.matrix.proofs.mirror_column.Goals as goal
 

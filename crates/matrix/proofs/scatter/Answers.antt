@@ -1,6 +1,6 @@
 use native.Mathlib.Omega.{arith}
 use mathlib.Core.Path.{refl, ◌∙◌}
-use Prim.Native.Nat.{◌+◌, ◌-◌, ◌<◌, zero-le}
+use Prim.Native.Nat.{◌+◌, ◌<◌, zero-le}
 use Rattle.matrix.proofs.Writing.{place-lt, one-row, wrote_none, wrote-more, wrote-all}
 use Rattle.matrix.proofs.scatter.Goals as goal
 

@@ -1,6 +1,5 @@
 use native.Mathlib.Omega.{arith}
 use mathlib.Core.Path.{refl}
-use Prim.Native.Nat.{◌-◌}
 use native.Mathlib.Nat.{le_refl}
 use Rattle.matrix.proofs.Writing.{wrote_none, wrote-more, wrote-all}
 use Rattle.matrix.proofs.start.Goals as goal

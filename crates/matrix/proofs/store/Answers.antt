@@ -1,6 +1,6 @@
 use native.Mathlib.Omega.{arith}
 use mathlib.Core.Path.{refl, sym, ap, ◌∙◌}
-use Prim.Native.Nat.{ℕ, ◌+◌, ◌*◌, ◌-◌}
+use Prim.Native.Nat.{ℕ, ◌+◌, ◌*◌}
 use native.Mathlib.Nat.{le_refl, zero-add}
 use Rattle.matrix.proofs.Writing.{place-lt, one-row, wrote_none, wrote-more, wrote-all}
 use Rattle.matrix.proofs.store.Goals as goal

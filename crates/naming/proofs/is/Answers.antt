@@ -1,4 +1,4 @@
-use Rattle.text.proofs.Kit.{refl, sym, ◌∙◌, ◌-◌, arith, length, take}
+use Rattle.text.proofs.Kit.{refl, sym, ◌∙◌, arith, take}
 use lib.Seq.{length-take-le, get_or-take}
 use Rattle.naming.proofs.Spelled.{same-lengths, same-on, same_not, same-all}
 use Rattle.naming.proofs.is.Goals as goal

@@ -1,4 +1,4 @@
-use Rattle.text.proofs.Kit.{◌-◌, arith}
+use Rattle.text.proofs.Kit.{arith}
 use Rattle.naming.proofs.Spelled.{end-first, end-here, end_on, end-last}
 use Rattle.naming.proofs.name_end.Goals as goal
 

@@ -1,4 +1,4 @@
-use Rattle.std.proofs.Common.{◌-◌, arith}
+use Rattle.std.proofs.Common.{arith}
 use Rattle.products.proofs.ActLaws.{turned_none, turned_more, turned-all}
 use Rattle.products.proofs.act_row.Goals as goal
 

@@ -1,4 +1,3 @@
-use Rattle.std.proofs.Common.{◌-◌}
 use Rattle.products.proofs.InPlace.{inplace-none, inplace-more, multiplied}
 use Rattle.products.proofs.imul_row.Goals as goal
 

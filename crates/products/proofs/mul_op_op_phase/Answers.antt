@@ -1,4 +1,4 @@
-use Rattle.std.proofs.Common.{◌-◌, arith}
+use Rattle.std.proofs.Common.{arith}
 use Rattle.products.proofs.RowLaws.{adding-none, adding-more, adding-all}
 use Rattle.products.proofs.mul_op_op_phase.Goals as goal
 

@@ -1,4 +1,3 @@
-use Rattle.std.proofs.Common.{◌-◌}
 use Rattle.products.proofs.RowLaws.{done_none, done_more, done_all}
 use Rattle.products.proofs.mul_row.Goals as goal
 

@@ -1,6 +1,6 @@
 use native.Mathlib.Omega.{arith}
 use mathlib.Core.Path.{sym, subst}
-use Prim.Native.Nat.{ℕ, ◌-◌}
+use Prim.Native.Nat.{ℕ}
 use Rattle.table.specs.Table.{lookups, table_phase}
 use Rattle.table.proofs.Walks.{Rowed, rowed-none, rowed-more, rowed-all}
 use Rattle.table.proofs.look_row.Goals as goal

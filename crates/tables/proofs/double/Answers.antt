@@ -1,4 +1,3 @@
-use Prim.Native.Nat.{◌-◌}
 use Rattle.tables.proofs.Doubling.{doubled-none, doubled-more, doubled-all}
 use Rattle.tables.proofs.double.Goals as goal
 

@@ -1,4 +1,3 @@
-use Prim.Native.Nat.{◌-◌}
 use Rattle.tables.proofs.Looking.{looking-none, looking-more, looking-all}
 use Rattle.tables.proofs.find.Goals as goal
 

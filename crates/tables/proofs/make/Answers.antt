@@ -1,6 +1,6 @@
 use native.Mathlib.Omega.{arith}
 use mathlib.Core.Path.{◌≡◌}
-use Prim.Native.Nat.{◌+◌, ◌*◌, ◌-◌}
+use Prim.Native.Nat.{◌+◌, ◌*◌}
 use Rattle.tables.proofs.Beginning.{begun-none, begun-at, begun_all}
 use Rattle.std.proofs.Common.{rules}
 use Rattle.tables.proofs.make.Goals as goal

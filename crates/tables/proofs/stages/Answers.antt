@@ -1,4 +1,3 @@
-use Prim.Native.Nat.{◌-◌}
 use Rattle.tables.proofs.Staging.{turning-none, turning-more, turning-all}
 use Rattle.std.proofs.Common.{rules}
 use Rattle.tables.proofs.stages.Goals as goal

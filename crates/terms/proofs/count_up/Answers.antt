@@ -1,7 +1,6 @@
 use Rattle.terms.proofs.Answers.{count-more, count-all}
 use native.Mathlib.Omega.{arith}
 use mathlib.Core.Path.{refl, ◌∙◌}
-use Prim.Native.Nat.{◌-◌}
 use lib.ListN.{length-set}
 use Rattle.terms.proofs.count_up.Goals as goal
 

@@ -1,4 +1,4 @@
-use Rattle.forms.proofs.Kit.{adds-empty, not-false, not-true}
+use Rattle.forms.proofs.Kit.{adds-empty}
 use Rattle.forms.proofs.say.dash.Goals as goal
 
 pub returns-then-not-none : goal.returns-then-not-none

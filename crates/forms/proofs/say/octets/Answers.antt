@@ -1,4 +1,4 @@
-use Rattle.forms.proofs.Kit.{◌-◌, arith, refl}
+use Rattle.forms.proofs.Kit.{arith, refl}
 use Rattle.forms.proofs.Octets.{begun, onward, all}
 use Rattle.forms.proofs.say.octets.Goals as goal
 

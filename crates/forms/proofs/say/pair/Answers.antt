@@ -1,4 +1,4 @@
-use Rattle.forms.proofs.Kit.{[], ◌++◌, ◌+◌, ◌∷◌, adds-both, append_assoc, append-nil, not-false, not-true}
+use Rattle.forms.proofs.Kit.{[], ◌++◌, ◌∷◌, adds-both, append_assoc, append-nil}
 use Rattle.text.specs.Numbers.{numeral}
 use Rattle.forms.proofs.say.pair.Goals as goal
 

@@ -1,4 +1,4 @@
-use Rattle.forms.proofs.Kit.{◌-◌, ◌∙◌, arith, refl, sym}
+use Rattle.forms.proofs.Kit.{◌∙◌, arith, refl, sym}
 use Rattle.forms.proofs.Pairs.{length_pairs, pair-at}
 use Rattle.text.proofs.Listing.{begun, onward, all}
 use Rattle.forms.proofs.say.put_pairs.Goals as goal

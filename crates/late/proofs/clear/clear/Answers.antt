@@ -1,6 +1,5 @@
 use native.Mathlib.Omega.{arith}
 use mathlib.Core.Path.{◌∙◌}
-use Prim.Native.Nat.{◌-◌}
 use lib.ListN.{get_or}
 use Rattle.pauli.specs.Row.{mul_row, bit_row}
 use Rattle.reduction.specs.Log.{capacity}

@@ -1,6 +1,5 @@
 use native.Mathlib.Omega.{arith}
 use mathlib.Core.Path.{refl, sym, ◌∙◌}
-use Prim.Native.Nat.{◌-◌}
 use Rattle.reduction.proofs.Places.{place_here, place-next, place_end}
 use Rattle.late.specs.Workers.{seen_bit}
 use Rattle.late.proofs.clear.find.Goals as goal

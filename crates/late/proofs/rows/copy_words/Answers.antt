@@ -1,5 +1,4 @@
 use Rattle.late.proofs.From.{copy-none, copy_more, copy-all}
-use Prim.Native.Nat.{◌-◌}
 use Rattle.late.proofs.rows.copy_words.Goals as goal
 
 pub loop-i-init : goal.loop-i-init

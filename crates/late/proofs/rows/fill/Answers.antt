@@ -1,6 +1,5 @@
 use Rattle.late.proofs.View.{fill_start, fill-in, fill_more, fill_end}
 use native.Mathlib.Omega.{arith}
-use Prim.Native.Nat.{◌-◌}
 use Rattle.late.proofs.rows.fill.Goals as goal
 
 pub loop-i-init : goal.loop-i-init

@@ -1,5 +1,4 @@
 use Rattle.late.proofs.From.{from-none, from_more, from_all}
-use Prim.Native.Nat.{◌-◌}
 use Rattle.late.proofs.rows.mul_into.Goals as goal
 
 pub loop-i-init : goal.loop-i-init

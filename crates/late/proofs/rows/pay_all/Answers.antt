@@ -1,5 +1,4 @@
 use Rattle.late.proofs.View.{paying-none, paying-more, paying-all}
-use Prim.Native.Nat.{◌-◌}
 use Rattle.late.proofs.rows.pay_all.Goals as goal
 
 pub loop-k-init : goal.loop-k-init

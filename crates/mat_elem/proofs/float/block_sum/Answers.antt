@@ -1,4 +1,4 @@
-use Rattle.std.proofs.Common.{◌≡◌, ℕ, ◌-◌, sym, ap, ◌∙◌, arith}
+use Rattle.std.proofs.Common.{◌≡◌, ℕ, sym, ap, ◌∙◌, arith}
 use lib.Ieee.{of_bits, neg}
 use Rattle.mat_elem.specs.float.Sums.{turned_by, plus, coefficient, term_at}
 use Rattle.mat_elem.proofs.float.Block.{sum-none, sum_more, sum-bad, sum-all}

@@ -1,4 +1,4 @@
-use Rattle.std.proofs.Common.{◌-◌, arith}
+use Rattle.std.proofs.Common.{arith}
 use Rattle.mat_elem.proofs.float.Scan.{wild-none, wild-more, wild-all}
 use Rattle.mat_elem.proofs.float.some_wild.Goals as goal
 

@@ -1,4 +1,4 @@
-use Rattle.std.proofs.Common.{◌≡◌, ◌-◌, length, get_or, pos, arith, to_z-of_z, w32}
+use Rattle.std.proofs.Common.{◌≡◌, length, get_or, pos, arith, to_z-of_z, w32}
 use borrow.Author.Rules.{sfits_of}
 use Rattle.mat_elem.proofs.states.Pairs.{none_yet, one_more}
 use Rattle.mat_elem.proofs.states.over_bras.Goals as goal

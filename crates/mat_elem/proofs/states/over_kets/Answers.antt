@@ -1,4 +1,4 @@
-use Rattle.std.proofs.Common.{◌≡◌, ◌-◌, length, get_or, pos, ap, ◌∙◌, arith, to_z-of_z, w32, w64, SFits, to_z, of_z, rules}
+use Rattle.std.proofs.Common.{◌≡◌, length, get_or, pos, ap, ◌∙◌, arith, to_z-of_z, w32, w64, SFits, to_z, of_z, rules}
 use borrow.Author.Rules.{sfits_of}
 use Rattle.checked.specs.Range.{gauss}
 use Rattle.checked.specs.Workers.{checked_pair, plus_checked}

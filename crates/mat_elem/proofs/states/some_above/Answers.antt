@@ -1,4 +1,4 @@
-use Rattle.std.proofs.Common.{◌+◌, ◌-◌, Bool, ◌||◌, drop, sym, refl, ap, ◌∙◌, arith}
+use Rattle.std.proofs.Common.{◌+◌, Bool, ◌||◌, drop, sym, refl, ap, ◌∙◌, arith}
 use mathlib.Core.Bool.{or-false}
 use Rattle.encoding.specs.Refusals.{some}
 use Rattle.encoding.proofs.Scan.{some_next, some_end}

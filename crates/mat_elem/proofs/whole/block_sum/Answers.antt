@@ -1,4 +1,4 @@
-use Rattle.std.proofs.Common.{◌≡◌, ℕ, ◌-◌, get_or, pos, ap, ◌∙◌, arith, to_z-of_z, w32}
+use Rattle.std.proofs.Common.{◌≡◌, ℕ, get_or, pos, ap, ◌∙◌, arith, to_z-of_z, w32}
 use borrow.Author.Rules.{sfits_of}
 use lib.Signed.{nat_abs-le}
 use Rattle.mat_elem.specs.whole.Sums.{complex, turned_by, plus}

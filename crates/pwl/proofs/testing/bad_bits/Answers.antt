@@ -1,9 +1,8 @@
 use native.Mathlib.Omega.{arith}
 use mathlib.Core.Path.{◌≡◌, refl, sym, ap, ◌∙◌}
-use Prim.Native.Nat.{ℕ, ◌+◌, ◌*◌, ◌-◌}
+use Prim.Native.Nat.{ℕ, ◌+◌, ◌*◌}
 use lib.ListN.{drop}
 use Rattle.pwl.specs.Bytes.{nums}
-use mathlib.Core.Bool.{false}
 use Rattle.encoding.specs.Refusals.{some_below, bad_bits}
 use Rattle.encoding.proofs.Spare.{high, rows_none}
 use Rattle.encoding.proofs.Scan.{any-more, any-hit}

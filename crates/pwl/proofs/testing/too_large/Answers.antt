@@ -1,6 +1,5 @@
 use native.Mathlib.Omega.{arith}
 use mathlib.Core.Path.{refl, sym, ◌∙◌}
-use Prim.Native.Nat.{◌-◌}
 use Rattle.pwl.proofs.Tests.{large-hit, large-more, large-end}
 use Rattle.std.proofs.Common.{rules}
 use Rattle.pwl.proofs.testing.too_large.Goals as goal

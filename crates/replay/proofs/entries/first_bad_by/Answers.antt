@@ -1,5 +1,4 @@
 use mathlib.Core.Path.{refl, sym, ◌∙◌}
-use Prim.Native.Nat.{◌-◌}
 use native.Mathlib.Omega.{arith}
 use Rattle.replay.specs.Workers.{good_by}
 use Rattle.replay.proofs.Log.{bad-here, bad-next, bad-end}

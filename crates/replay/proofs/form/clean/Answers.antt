@@ -1,5 +1,4 @@
 use mathlib.Core.Path.{refl, sym, ◌∙◌}
-use Prim.Native.Nat.{◌-◌}
 use native.Mathlib.Omega.{arith}
 use Rattle.replay.specs.Workers.{off_in}
 use Rattle.replay.proofs.Looks.{every_here, every-next, every-end}

@@ -1,6 +1,5 @@
 use mathlib.Core.List.{◌++◌}
 use mathlib.Core.Path.{refl, sym, ◌∙◌}
-use Prim.Native.Nat.{◌-◌}
 use native.Mathlib.Omega.{arith}
 use borrow.Author.Tests.{not-true, not-false}
 use Rattle.reduction.specs.Form.{reduced}

@@ -1,4 +1,4 @@
-use Rattle.row_text.proofs.Kit.{◌-◌, arith}
+use Rattle.row_text.proofs.Kit.{arith}
 use Rattle.row_text.proofs.Putting.{putting, next_fits, put-more, put_all, put-long}
 use Rattle.row_text.proofs.fmt.put_row.Goals as goal
 

@@ -1,4 +1,4 @@
-use Rattle.row_text.proofs.Kit.{◌-◌, arith}
+use Rattle.row_text.proofs.Kit.{arith}
 use Rattle.row_text.proofs.Putting.{measuring, measured-more, measured}
 use Rattle.row_text.proofs.fmt.spaced_size.Goals as goal
 

@@ -1,4 +1,4 @@
-use Rattle.row_text.proofs.Kit.{refl, ◌-◌, arith, rules}
+use Rattle.row_text.proofs.Kit.{refl, arith, rules}
 use Rattle.row_text.proofs.InRow.{copying, copied_more, copied}
 use Rattle.row_text.proofs.parse.copy.Goals as goal
 

@@ -1,4 +1,4 @@
-use Rattle.row_text.proofs.Kit.{◌-◌, sym, ◌∙◌, not-true, not-false, arith}
+use Rattle.row_text.proofs.Kit.{sym, ◌∙◌, not-true, not-false, arith}
 use Rattle.row_text.proofs.InRow.{scan-none, scan-one, scan-yes, scan-no, scan-place, holding-long}
 use Rattle.row_text.proofs.parse.scan.Goals as goal
 

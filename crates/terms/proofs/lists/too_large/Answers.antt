@@ -2,7 +2,7 @@ use Rattle.encoding.proofs.Scan.{some-hit, some_more, some_end}
 use Rattle.encoding.specs.Refusals.{too_large}
 use native.Mathlib.Omega.{arith}
 use mathlib.Core.Path.{refl, sym, ◌∙◌}
-use Prim.Native.Nat.{◌+◌, ◌-◌}
+use Prim.Native.Nat.{◌+◌}
 use Rattle.std.proofs.Common.{rules}
 use Rattle.terms.proofs.lists.too_large.Goals as goal
 

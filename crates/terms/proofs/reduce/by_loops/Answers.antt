@@ -6,7 +6,7 @@ use Rattle.encoding.specs.Set.{mem_of}
 use Rattle.pauli.specs.Row.{mul_row, bit_row}
 use native.Mathlib.Omega.{arith}
 use mathlib.Core.Path.{refl, ap, ◌∙◌}
-use Prim.Native.Nat.{◌-◌, ◌/◌}
+use Prim.Native.Nat.{◌/◌}
 use lib.ListN.{get_or}
 use Rattle.terms.proofs.reduce.by_loops.Goals as goal
 

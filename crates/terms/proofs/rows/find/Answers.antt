@@ -2,7 +2,6 @@ use Rattle.reduction.proofs.Places.{place_here, place-next, place_end}
 use Rattle.terms.specs.Workers.{bit_in}
 use native.Mathlib.Omega.{arith}
 use mathlib.Core.Path.{refl, sym, ◌∙◌}
-use Prim.Native.Nat.{◌-◌}
 use Rattle.terms.proofs.rows.find.Goals as goal
 
 pub loop-i-init : goal.loop-i-init

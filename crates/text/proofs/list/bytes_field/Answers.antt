@@ -1,4 +1,3 @@
-use Rattle.text.proofs.Kit.{◌-◌}
 use Rattle.text.proofs.Places.{no_number}
 use Rattle.text.proofs.Taking.{begun, turn, ended}
 use Rattle.text.proofs.list.bytes_field.Goals as goal

@@ -1,4 +1,4 @@
-use Rattle.text.proofs.Kit.{◌-◌, rules}
+use Rattle.text.proofs.Kit.{rules}
 use mir.Syntax.{w32}
 use mir.Val.{SFits}
 use mir.Facts.{to_z-of_z}

@@ -1,4 +1,3 @@
-use Rattle.text.proofs.Kit.{◌-◌}
 use Rattle.text.proofs.Places.{no_number}
 use Rattle.text.proofs.Taking.{begun-log, turn, ended}
 use Rattle.text.proofs.list.log_field.Goals as goal

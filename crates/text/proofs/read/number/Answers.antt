@@ -1,4 +1,4 @@
-use Rattle.text.proofs.Kit.{sym, ◌∙◌, ◌-◌, arith}
+use Rattle.text.proofs.Kit.{sym, ◌∙◌, arith}
 use Rattle.text.proofs.Reading.{begun, at-end, at_other, refused, taken}
 use Rattle.text.proofs.read.number.Goals as goal
 

@@ -1,4 +1,4 @@
-use Rattle.text.proofs.Kit.{refl, ◌-◌, arith, rules}
+use Rattle.text.proofs.Kit.{refl, arith, rules}
 use Rattle.text.proofs.Adding.{copying, copied_more, copied}
 use Rattle.text.proofs.write.copy.Goals as goal
 

@@ -1,4 +1,4 @@
-use Rattle.text.proofs.Kit.{refl, ◌∙◌, ◌-◌}
+use Rattle.text.proofs.Kit.{refl, ◌∙◌}
 use Rattle.text.proofs.Listing.{begun, onward, all}
 use Rattle.text.proofs.write_list.put_bytes.Goals as goal
 
