@@ -17,7 +17,8 @@ fn fronted(
     extra: &mut usize,
     entries: &mut usize,
 ) -> u8
-    ensures { Gives opened_seen (front_of n.old m.old order.old listed.old extra.old entries.old) (front_of n.new m.new order.new listed.new extra.new entries.new) result a }
+    ensures { Gives opened_seen (front_of n.old m.old order.old listed.old extra.old entries.old)
+        (front_of n.new m.new order.new listed.new extra.new entries.new) result a }
 {
     match a {
         Opened::Whole(f) => {

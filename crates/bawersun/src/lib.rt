@@ -134,7 +134,8 @@ pub extern "C" fn bawersun_set_qubit(
     qubit: usize,
     pauli: u8,
 ) -> u8
-    ensures { Told (SetQubit n (mem_of m x.old z.old phases.now) (row_for pauli m row) qubit (pauli_of pauli) (mem_of m x.new z.new phases.now)) (Number result) }
+    ensures { Told (SetQubit n (mem_of m x.old z.old phases.now) (row_for pauli m row) qubit (pauli_of pauli)
+        (mem_of m x.new z.new phases.now)) (Number result) }
 {
     let k = row_for(pauli, m, row);
     let p = pauli_of(pauli);
@@ -258,7 +259,8 @@ pub extern "C" fn bawersun_cmpnts_mul_pairwise(
     op: &mut [u64],
     clashes: &mut [u16],
 ) -> u8
-    ensures { Told (MulPairwise n (mem_of m lx.now lz.now lp.now) (mem_of m rx.now rz.now rp.now) (mem_of m ox.old oz.old op.old) (mem_of m ox.new oz.new op.new) clashes.old
+    ensures { Told (MulPairwise n (mem_of m lx.now lz.now lp.now) (mem_of m rx.now rz.now rp.now) (mem_of m ox.old oz.old op.old)
+        (mem_of m ox.new oz.new op.new) clashes.old
         clashes.new) (Number result) }
 {
     number(cmpnt_list::cmpnts_mul_pairwise(n, m, lx, lz, lp, rx, rz, rp, ox, oz, op, clashes))

@@ -519,7 +519,8 @@ fn mul_word(
     clashes: &mut [u16],
 ) -> u64
     requires both_ready { BothReady n (mem_of m lx.now lz.now lp.now) (mem_of m rx.now rz.now rp.now) }
-    requires j_bound { (j < phase_units m) × Written n (mem_of m lx.now lz.now lp.now) (mem_of m rx.now rz.now rp.now) (j * 32) ox.old oz.old clashes.old }
+    requires j_bound { (j < phase_units m)
+        × Written n (mem_of m lx.now lz.now lp.now) (mem_of m rx.now rz.now rp.now) (j * 32) ox.old oz.old clashes.old }
     ensures phases_of { PhasesOf n (mem_of m lx.now lz.now lp.now) (mem_of m rx.now rz.now rp.now) j m result }
     ensures rows { Written n (mem_of m lx.now lz.now lp.now) (mem_of m rx.now rz.now rp.now) (word_end m j)
         ox.new oz.new clashes.new }
@@ -583,7 +584,8 @@ pub fn cmpnts_mul_pairwise(
     op: &mut [u64],
     clashes: &mut [u16],
 ) -> Answer
-    ensures { MulPairwise n (mem_of m lx.now lz.now lp.now) (mem_of m rx.now rz.now rp.now) (mem_of m ox.old oz.old op.old) (mem_of m ox.new oz.new op.new) clashes.old
+    ensures { MulPairwise n (mem_of m lx.now lz.now lp.now) (mem_of m rx.now rz.now rp.now) (mem_of m ox.old oz.old op.old)
+        (mem_of m ox.new oz.new op.new) clashes.old
         clashes.new result }
 {
     let f = encoding::smaller(

@@ -217,7 +217,8 @@ fn clear_both(
     pivot: u16,
 ) -> Late
     requires turn_in { TurnIn n c pivot h (store (mem_of m x.now z.now p.now) (mem_of table_rows tx.now tz.now tp.now) owed.old log.old s) }
-    requires sees { Sees n c w j i (mem_of m x.now z.now p.now) (mem_of table_rows tx.now tz.now tp.now) b.now tb.now × Below m listed.now × Below m extra.now }
+    requires sees { Sees n c w j i (mem_of m x.now z.now p.now) (mem_of table_rows tx.now tz.now tp.now) b.now tb.now
+        × Below m listed.now × Below m extra.now }
     ensures { Runs n (Clearing (bit_row n) (mul_row n) c pivot (s.g - 1))
         (through (turn_c (bit_row n) (mul_row n) (capacity log.old) c pivot) (listed.now ++ extra.now))
         (store (mem_of m x.now z.now p.now) (mem_of table_rows tx.now tz.now tp.now) owed.old log.old s)

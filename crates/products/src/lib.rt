@@ -62,7 +62,8 @@ pub fn add_clashes(n: u64, lx: u64, lz: u64, rx: u64, rz: u64) -> u64
 // In f the bits of the qubits whose product brings 3 are turned over. Clashes bring 1 or 3, so twice the ones of f is what they bring beside
 // their number, mod 4.
 pub fn turn_threes(f: u64, lx: u64, lz: u64, rx: u64, rz: u64) -> u64
-    ensures { (2 * count_ones result + clashes (word 64 lx lz) (word 64 rx rz)) % 4 ≡ (2 * count_ones f + phases (word 64 lx lz) (word 64 rx rz)) % 4 }
+    ensures { (2 * count_ones result + clashes (word 64 lx lz) (word 64 rx rz)) % 4
+        ≡ (2 * count_ones f + phases (word 64 lx lz) (word 64 rx rz)) % 4 }
 {
     f ^ (((lx ^ rx) ^ (lz ^ rz) ^ (lx & rz)) & ((lx & rz) ^ (lz & rx)))
 }

@@ -145,7 +145,8 @@ pub(crate) fn put_run(
     cp: &[u64],
     out: &mut [u8],
 ) -> usize
-    requires n_bound { (f.n ≤ 65535) × (f.m ≤ 65535) × (f ≡ front_for (run f.n f.m order.now listed.now extra.now x.now z.now p.now log.now cx.now cz.now cp.now)) }
+    requires n_bound { (f.n ≤ 65535) × (f.m ≤ 65535)
+        × (f ≡ front_for (run f.n f.m order.now listed.now extra.now x.now z.now p.now log.now cx.now cz.now cp.now)) }
     requires cp_in_bounds { length (image (run f.n f.m order.now listed.now extra.now x.now z.now p.now log.now cx.now cz.now cp.now))
         ≤ length out.old }
     ensures { Imaged (run f.n f.m order.now listed.now extra.now x.now z.now p.now log.now cx.now cz.now cp.now) out.old out.new result }

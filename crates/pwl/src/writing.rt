@@ -27,7 +27,8 @@ fn write_run(
     out: &mut [u8],
 ) -> Written
     requires { Shaped (run n m order.now listed.now extra.now x.now z.now p.now log.now cx.now cz.now cp.now) }
-    ensures { ImageWritten (by_rank (short_line (run n m order.now listed.now extra.now x.now z.now p.now log.now cx.now cz.now cp.now) out.old ∷ []))
+    ensures { ImageWritten (by_rank (short_line
+        (run n m order.now listed.now extra.now x.now z.now p.now log.now cx.now cz.now cp.now) out.old ∷ []))
         (run n m order.now listed.now extra.now x.now z.now p.now log.now cx.now cz.now cp.now) out.old out.new result }
 {
     let f = Front {

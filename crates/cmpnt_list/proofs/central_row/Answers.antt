@@ -1,3 +1,4 @@
+-- A row that the row does not commute with ends it with no (`every-not`), any other makes one more (`every_more`), and below m it is the definition.
 use mathlib.Core.Path.{subst, ◌≡◌, sym, ◌∙◌}
 use mathlib.Core.Bool.{Bool, true}
 use Prim.Native.Nat.{ℕ, ◌<◌}

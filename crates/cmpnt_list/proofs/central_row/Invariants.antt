@@ -1,5 +1,4 @@
--- The row commutes with every row below k: one that it does not commute with ends it with no (`every-not`), any other makes one more
--- (`every_more`), and below m it is the definition.
+-- The row commutes with every row below k.
 use mathlib.Core.Path.{◌≡◌}
 use mathlib.Core.Bool.{true}
 use Prim.Native.Nat.{◌-◌, ◌≤◌}

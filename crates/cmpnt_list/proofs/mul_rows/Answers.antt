@@ -1,3 +1,4 @@
+-- Word j adds its rows and is written once; past the last word no row is left (`all_words`).
 use Rattle.encoding.specs.Set.{mem_of, phase_units}
 use Rattle.cmpnt_list.proofs.Pairing.{written_at, no_words, written_none, next_word, this-word, all_words, phases-laid, phases-more, written_all, numbered-all}
 use native.Mathlib.Omega.{arith}

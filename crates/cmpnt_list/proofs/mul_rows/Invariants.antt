@@ -1,5 +1,4 @@
 -- The rows of the phase words before word j are written, with their numbers (`Written`), and each of these words holds the exponents of its rows (`PhasesOf`).
--- Word j adds its rows and is written once; past the last word no row is left (`all_words`).
 use Rattle.encoding.specs.Limits.{max_rows}
 use Rattle.encoding.specs.Set.{mem_of, phase_units}
 use Rattle.cmpnt_list.specs.Workers.{rows_before, Written, PhasesOf}

@@ -1,3 +1,4 @@
+-- Row r is written in its own part of words, and its exponent is made part of the word, so that no earlier row changes (`row_done`).
 use Rattle.encoding.specs.Set.{mem_of}
 use Rattle.cmpnt_list.specs.Workers.{word_end}
 use Rattle.cmpnt_list.proofs.Pairing.{written_at, end-in, phases-none, phases-all, all-long, row_done}

@@ -1,5 +1,4 @@
--- Rows from 32 j up to r are written, with their numbers (`Written`), and their exponents lie in the word, 0 past r (`PhasesOf`). Row r is written in its own
--- part of words, and its exponent is made part of the word, so that no earlier row changes (`row_done`).
+-- Rows from 32 j up to r are written, with their numbers (`Written`), and their exponents lie in the word, 0 past r (`PhasesOf`).
 use Rattle.encoding.specs.Limits.{max_rows}
 use Rattle.encoding.specs.Set.{mem_of}
 use Rattle.cmpnt_list.specs.Workers.{word_end, Written, PhasesOf}

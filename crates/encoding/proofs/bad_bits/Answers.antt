@@ -1,3 +1,5 @@
+-- Where n is a multiple of 64 no row can have a bit at n or above (`rows_none`); else only the last word of a row can,
+-- so that looking at that word decides row r (`row_last`): the call ends at the first row found, or with all m rows behind it.
 use Rattle.encoding.specs.Refusals.{some_below, bad_bits}
 use Rattle.encoding.proofs.Spare.{high, rows_none, row_last}
 use Rattle.encoding.proofs.Scan.{any-more, any-hit}

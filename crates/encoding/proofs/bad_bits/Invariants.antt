@@ -1,5 +1,4 @@
--- No row below r has a bit at n or above. Where n is a multiple of 64 no row can have one (`rows_none`); else only the last word of a row can,
--- so that looking at that word decides row r (`row_last`): the call ends at the first row found, or with all m rows behind it.
+-- No row below r has a bit at n or above.
 use mathlib.Core.Bool.{false}
 use Rattle.encoding.specs.Refusals.{some_below}
 use Rattle.encoding.proofs.Spare.{high}

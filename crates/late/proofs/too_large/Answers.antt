@@ -1,3 +1,4 @@
+-- Number i is too large, and the answer is given (`some-hit`), or it is not and can be passed over (`some_more`).
 use Rattle.encoding.proofs.Scan.{some-hit, some_more, some_end}
 use Rattle.encoding.specs.Refusals.{too_large}
 use native.Mathlib.Omega.{arith}

@@ -1,3 +1,4 @@
+-- Whether the word in the middle is below t tells on which side of it the block's start lies. Where lo meets hi it is the start.
 use Rattle.std.proofs.Common.{◌+◌, ◌-◌, ◌/◌, sym, ◌∙◌, arith, ltb-false, ltb-true}
 use Rattle.mat_elem.specs.Workers.{block_from}
 use Rattle.mat_elem.proofs.lower.Goals as goal

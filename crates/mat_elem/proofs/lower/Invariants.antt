@@ -1,5 +1,4 @@
--- Invariant: the block's start is not before lo and not after hi. Whether the word in the middle is below t tells on which side of it the start lies.
--- Where lo meets hi it is the start.
+-- Invariant: the block's start is not before lo and not after hi.
 use Rattle.std.proofs.Common.{◌-◌, ◌≤◌, length}
 use Rattle.mat_elem.specs.Workers.{block_from}
 use Rattle.mat_elem.proofs.lower.Given as goal

@@ -1,3 +1,4 @@
+-- Column a is right from the diagonal down once its pairs are summed and stored, and no earlier column is touched. Assumes nothing.
 use native.Mathlib.Omega.{arith}
 use mathlib.Core.Path.{◌≡◌, refl, ◌∙◌, subst}
 use Prim.Native.Nat.{ℕ, zero-le}

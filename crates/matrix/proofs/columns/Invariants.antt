@@ -1,4 +1,3 @@
--- `matrix::columns` meets its contract. Assumes nothing.
 -- The loop keeps `RightWhere (Down a)`: the first a columns are right from the diagonal down; there are as many as words of m bits.
 use mathlib.Core.Path.{◌≡◌}
 use Prim.Native.Nat.{◌-◌, ◌≤◌}

@@ -1,3 +1,4 @@
+-- Word k of every row is one pair of the two parts, which `pair` adds to the sums. Assumes nothing.
 use native.Mathlib.Omega.{arith}
 use mathlib.Core.Path.{◌≡◌, refl, ◌∙◌, subst}
 use Prim.Native.Nat.{ℕ, zero-le}

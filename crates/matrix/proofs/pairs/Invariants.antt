@@ -1,4 +1,3 @@
--- `matrix::pairs` meets its contract. Assumes nothing.
 -- The loop keeps `Summed k`: k words of every row are summed, and the lent places keep their lengths.
 use mathlib.Core.Path.{◌≡◌}
 use Prim.Native.Nat.{◌-◌, ◌≤◌}

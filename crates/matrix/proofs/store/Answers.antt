@@ -1,3 +1,4 @@
+-- Each sum is written into a row of its own (`one-row`), so that no sum that stands is overwritten. Assumes nothing.
 use native.Mathlib.Omega.{arith}
 use mathlib.Core.Path.{refl, sym, ap, ◌∙◌}
 use Prim.Native.Nat.{ℕ, ◌+◌, ◌*◌}

@@ -1,4 +1,3 @@
--- `matrix::store` meets its contract. Assumes nothing.
 -- The loop keeps `Placed first i`: the sums from first up to i stand in column a, in different rows (`one-row`).
 use Prim.Native.Nat.{◌-◌, ◌≤◌}
 use Rattle.matrix.specs.Workers.{Placed, item, place}

@@ -1,3 +1,4 @@
+-- A word is made and its exponent added, so what is left is one word less; the exponent is at most 3 a word, so the sum fits.
 use Rattle.std.proofs.Common.{arith}
 use Rattle.products.proofs.ActLaws.{turned_none, turned_more, turned-all}
 use Rattle.products.proofs.act_row.Goals as goal

@@ -1,5 +1,5 @@
 -- Of the state, words below i are the exclusive or with X and the others as they were; the exponent so far with that of the words from i on is the
--- whole, mod 4 (`Turned`). The exponent is at most 3 a word, so the sum fits.
+-- whole, mod 4 (`Turned`).
 use Rattle.std.proofs.Common.{◌-◌, length}
 use Rattle.products.proofs.ActLaws.{Turned}
 use Rattle.products.proofs.act_row.Given as goal

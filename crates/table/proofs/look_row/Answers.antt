@@ -1,3 +1,4 @@
+-- Each word takes 32 of the look-ups, or all that are left, so after a word one word less is to come. Assumes nothing.
 use native.Mathlib.Omega.{arith}
 use mathlib.Core.Path.{sym, subst}
 use Prim.Native.Nat.{ℕ}

@@ -1,5 +1,4 @@
--- `table::look_row` meets its contract: the sum so far and what the look-ups to come bring in the words to come are the whole, mod 4,
--- since each word takes 32 of them, or all that are left. Assumes nothing.
+-- The sum so far and what the look-ups to come bring in the words to come are the whole, mod 4.
 use Prim.Native.Nat.{◌-◌, ◌≤◌}
 use Rattle.table.specs.Table.{table_phase}
 use Rattle.table.proofs.Walks.{Rowed}

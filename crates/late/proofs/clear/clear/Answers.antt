@@ -1,3 +1,4 @@
+-- A turn that fills the log ends the run of the list (`going-full`), any other goes one row on (`going_next`).
 use native.Mathlib.Omega.{arith}
 use mathlib.Core.Path.{◌∙◌}
 use lib.ListN.{get_or}

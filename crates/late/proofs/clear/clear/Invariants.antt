@@ -1,5 +1,5 @@
 -- What is left of the list, done from here, is the whole list done from the start, rows and table stay, and a row with the column does not owe the pivot yet
--- (`Going`). A turn that fills the log ends it (`going-full`), any other goes one row on (`going_next`).
+-- (`Going`).
 use Prim.Native.Nat.{◌-◌}
 use lib.ListN.{length}
 use Rattle.pauli.specs.Row.{mul_row, bit_row}

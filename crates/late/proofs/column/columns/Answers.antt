@@ -1,3 +1,4 @@
+-- A column that fills the log ends the run of the order (`going-full`), any other goes one column on (`going_next`).
 use native.Mathlib.Omega.{arith}
 use mathlib.Core.Path.{refl, ◌∙◌}
 use lib.ListN.{get_or}

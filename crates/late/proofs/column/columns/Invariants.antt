@@ -1,5 +1,5 @@
 -- What is left of the order, done from here, is the whole order done from the start, t is at most the number of listed rows, and rows owe pivots of the block only
--- (`Going`). A column that fills the log ends it (`going-full`), any other goes one column on (`going_next`).
+-- (`Going`).
 use Prim.Native.Nat.{◌-◌, ◌≤◌}
 use lib.ListN.{length}
 use Rattle.pauli.specs.Row.{mul_row, bit_row}

@@ -1,3 +1,4 @@
+-- A bra is one step: its pairs with all kets, from the sum so far on.
 use Rattle.std.proofs.Common.{◌≡◌, length, get_or, pos, arith, to_z-of_z, w32}
 use borrow.Author.Rules.{sfits_of}
 use Rattle.mat_elem.proofs.states.Pairs.{none_yet, one_more}

@@ -1,5 +1,4 @@
 -- Invariant: s is the running sum over all pairs of the bras before i.
--- A bra is one step: its pairs with all kets, from the sum so far on.
 use Rattle.std.proofs.Common.{◌≡◌, ◌-◌, ◌≤◌, length}
 use Rattle.mat_elem.specs.Workers.{bra_step}
 use Rattle.mat_elem.specs.states.Sums.{terms, state, through}

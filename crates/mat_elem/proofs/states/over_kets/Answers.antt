@@ -1,3 +1,4 @@
+-- A pair is one step: the element by the search, and the checked sum with it.
 use Rattle.std.proofs.Common.{◌≡◌, length, get_or, pos, ap, ◌∙◌, arith, to_z-of_z, w32, w64, SFits, to_z, of_z, rules}
 use borrow.Author.Rules.{sfits_of}
 use Rattle.checked.specs.Range.{gauss}

@@ -1,5 +1,4 @@
 -- Invariant: s is the running sum from `start` over the kets before j, each with its tests.
--- A pair is one step: the element by the search, and the checked sum with it.
 use Rattle.std.proofs.Common.{◌≡◌, ◌-◌, ◌≤◌, length}
 use Rattle.checked.specs.Range.{gauss}
 use Rattle.mat_elem.specs.Workers.{ket_step}

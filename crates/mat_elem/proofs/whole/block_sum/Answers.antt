@@ -1,3 +1,4 @@
+-- There are at most 65,536 terms of at most 2^31 in each part, so no sum on the way leaves i64.
 use Rattle.std.proofs.Common.{◌≡◌, ℕ, get_or, pos, ap, ◌∙◌, arith, to_z-of_z, w32}
 use borrow.Author.Rules.{sfits_of}
 use lib.Signed.{nat_abs-le}

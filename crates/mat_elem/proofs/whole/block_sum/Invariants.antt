@@ -1,5 +1,4 @@
 -- Invariant: s is the sum from `first` up to i, of at most i times 2^31 in each part (`Summed`).
--- There are at most 65,536 terms, so no sum on the way leaves i64.
 use Rattle.std.proofs.Common.{◌-◌}
 use Rattle.mat_elem.proofs.whole.Block.{Summed}
 use Rattle.mat_elem.proofs.whole.block_sum.Given as goal

@@ -1,3 +1,4 @@
+-- Only the last word of a row can have a bit at n or above (`row_seen`), and where n is a multiple of 64 there is no such bit.
 use native.Mathlib.Omega.{arith}
 use mathlib.Core.Path.{◌≡◌, refl, sym, ap, ◌∙◌}
 use Prim.Native.Nat.{ℕ, ◌+◌, ◌*◌}

@@ -1,5 +1,4 @@
--- No row below r has a bit at n or above; only the last word of a row can have one (`row_seen`).
--- Where n is a multiple of 64 there is no such bit.
+-- No row below r has a bit at n or above.
 use mathlib.Core.Path.{◌≡◌}
 use Prim.Native.Nat.{◌+◌, ◌*◌, ◌-◌, ◌≤◌}
 use lib.ListN.{drop}

@@ -1,3 +1,4 @@
+-- The bits, spread out, are the marks of lists in memory, and a bit that is set is one of these set: so a number is marked once, and found at its second place.
 use native.Mathlib.Omega.{arith}
 use mathlib.Core.Bool.{not}
 use mathlib.Core.Path.{refl, sym, ap, ◌∙◌, subst}

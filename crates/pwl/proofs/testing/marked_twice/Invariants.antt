@@ -1,5 +1,4 @@
--- What is left of the list has no number twice and finds no mark exactly when the whole list has no number twice (`Marking`, of the lists in memory):
--- the bits, spread out, are the marks of those lists, and a bit that is set is one of these set.
+-- What is left of the list has no number twice and finds no mark exactly when the whole list has no number twice (`Marking`, of the lists in memory).
 use mathlib.Core.Path.{◌≡◌}
 use Prim.Native.Nat.{◌-◌, ◌≤◌}
 use lib.ListN.{length, drop}

@@ -1,3 +1,4 @@
+-- Entry i is bad, and i is the answer (`bad-here`), or it is passed over (`bad-next`). Entry i is units 2i and 2i + 1, both inside while 2i + 1 is.
 use mathlib.Core.Path.{refl, sym, ◌∙◌}
 use native.Mathlib.Omega.{arith}
 use Rattle.replay.specs.Workers.{good_by}

@@ -1,5 +1,4 @@
--- The first bad entry of those from i on, counted from i, is the first bad entry of the log: entry i is bad, and i is the answer (`bad-here`), or
--- it is passed over (`bad-next`). Entry i is units 2i and 2i + 1, both inside while 2i + 1 is.
+-- The first bad entry of those from i on, counted from i, is the first bad entry of the log.
 use mathlib.Core.Path.{◌≡◌}
 use Prim.Native.Nat.{◌-◌, ◌/◌, ◌≤◌}
 use lib.ListN.{length, drop}

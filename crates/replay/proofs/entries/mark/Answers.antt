@@ -1,3 +1,4 @@
+-- Each number of the list is below the length of the table, which stays; marking number i is one place more.
 use mathlib.Core.Path.{refl, ◌∙◌}
 use native.Mathlib.Omega.{arith}
 use lib.ListN.{length, get_or, length-set}

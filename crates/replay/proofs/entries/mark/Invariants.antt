@@ -1,5 +1,4 @@
--- A number has the new mark if it stands in the list below place i, and else the mark that it had (`Marking`). Each number of the list is below the
--- length of the table, which stays.
+-- A number has the new mark if it stands in the list below place i, and else the mark that it had (`Marking`).
 use mathlib.Core.Path.{◌≡◌}
 use Prim.Native.Nat.{◌-◌, ◌≤◌}
 use lib.ListN.{length}

@@ -1,3 +1,4 @@
+-- Row i is neither p nor clear, and the answer is no (`every_here`), or it can be passed over (`every-next`).
 use mathlib.Core.Path.{refl, sym, ◌∙◌}
 use native.Mathlib.Omega.{arith}
 use Rattle.replay.specs.Workers.{off_in}

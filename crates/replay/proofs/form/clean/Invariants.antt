@@ -1,5 +1,4 @@
--- That each row from place i on is p or has the column clear is that each row of the list is: row i is neither, and the answer is no (`every_here`),
--- or it can be passed over (`every-next`).
+-- That each row from place i on is p or has the column clear is that each row of the list is.
 use mathlib.Core.Path.{◌≡◌}
 use Prim.Native.Nat.{◌-◌, ◌≤◌}
 use lib.ListN.{length, drop}

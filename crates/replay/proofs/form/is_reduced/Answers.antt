@@ -1,3 +1,4 @@
+-- A column is passed over, or takes a pivot, or ends it with no (`test-next`).
 use mathlib.Core.List.{◌++◌}
 use mathlib.Core.Path.{refl, sym, ◌∙◌}
 use native.Mathlib.Omega.{arith}

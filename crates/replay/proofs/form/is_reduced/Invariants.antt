@@ -1,5 +1,4 @@
--- The test of the columns from place i on, with the listed rows from place t on still without a pivot column, is the test of the whole order: a
--- column is passed over, or takes a pivot, or ends it with no (`test-next`).
+-- The test of the columns from place i on, with the listed rows from place t on still without a pivot column, is the test of the whole order.
 use mathlib.Core.List.{◌++◌}
 use mathlib.Core.Path.{◌≡◌}
 use Prim.Native.Nat.{◌-◌, ◌≤◌}

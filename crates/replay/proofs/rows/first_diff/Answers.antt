@@ -1,3 +1,4 @@
+-- Rows i differ, and i is the answer (`diff-here`), or they are the same and are passed over (`diff-next`).
 use mathlib.Core.Path.{sym, ap, ◌∙◌}
 use Prim.Native.Nat.{◌+◌, ◌-◌}
 use native.Mathlib.Nat.{sub-zero}

@@ -1,5 +1,4 @@
--- The first row that differs of those from i on is the first of all: rows i differ, and i is the answer (`diff-here`), or they are the same and are
--- passed over (`diff-next`).
+-- The first row that differs of those from i on is the first of all.
 use mathlib.Core.Path.{◌≡◌}
 use Prim.Native.Nat.{◌-◌, ◌≤◌}
 use Rattle.pauli.specs.Row.{same_row}

@@ -1,3 +1,4 @@
+-- Entry i is the next of the log's pairs, and doing it is one entry more (`redo-more`).
 use mathlib.Core.Path.{◌≡◌, refl, ap, ◌∙◌}
 use Prim.Native.Nat.{◌+◌}
 use native.Mathlib.Omega.{arith}

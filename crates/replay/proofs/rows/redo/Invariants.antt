@@ -1,5 +1,4 @@
--- The memory is the one with the first i entries done, and no slice has changed its length: entry i is the next of the log's pairs, and doing it is
--- one entry more (`redo-more`).
+-- The memory is the one with the first i entries done, and no slice has changed its length.
 use mathlib.Core.Path.{◌≡◌}
 use Prim.Native.Nat.{◌-◌, ◌≤◌}
 use lib.ListN.{length, take}

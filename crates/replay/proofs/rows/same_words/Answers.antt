@@ -1,3 +1,4 @@
+-- A pair that differs makes the rows differ (`rows-not`), and w pairs that do not make them equal (`rows-equal`).
 use mathlib.Core.Bool.{false≢true}
 use mathlib.Core.Path.{◌≡◌, sym}
 use Prim.Native.Nat.{ℕ, ◌+◌, ◌*◌}

@@ -1,5 +1,4 @@
--- The words of both rows below i are the same. A pair that differs makes the rows differ (`rows-not`), and w pairs that do not make them equal
--- (`rows-equal`).
+-- The words of both rows below i are the same.
 use mathlib.Core.Path.{◌≡◌}
 use Prim.Native.Nat.{ℕ, ◌+◌, ◌*◌, ◌-◌, ◌<◌, ◌≤◌}
 use lib.ListN.{get_or}

@@ -1,3 +1,4 @@
+-- The next entry that is taken back is the one right before the last i, so the memory is then what i + 1 leave. Assumes nothing.
 use native.Mathlib.Omega.{arith}
 use mathlib.Core.Path.{◌≡◌, refl, ap, ◌∙◌}
 use Prim.Native.Nat.{ℕ, ◌+◌, ◌-◌, ◌/◌}

@@ -1,5 +1,4 @@
--- `replay::undo::take_back` meets its contract: with i entries taken back, the memory is what taking back the last i entries leaves; the next one is the
--- entry right before them. Assumes nothing.
+-- With i entries taken back, the memory is what taking back the last i entries leaves.
 use mathlib.Core.Path.{◌≡◌}
 use Prim.Native.Nat.{◌-◌, ◌≤◌}
 use lib.ListN.{length, drop}

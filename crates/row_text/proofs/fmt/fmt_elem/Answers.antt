@@ -1,3 +1,5 @@
+-- Refused by the tests of the row (`fmt-refused`), or the row's text is written, whose own refusal stands behind theirs: the numbers are those of the call in
+-- turn (`fmt-in-turn`).
 use Rattle.row_text.proofs.Kit.{ℕ, sym, ap, ◌∙◌, subst, leb-false}
 use Rattle.row_text.specs.declared.Written.TheVariants.{Refused}
 use Rattle.encoding.specs.Set.{mem_of, rows_of}

@@ -1,3 +1,4 @@
+-- A piece adds its Pauli, and where none may come next no row has the text (Scanning.scan-stops).
 use Rattle.row_text.proofs.Kit.{sym, ◌∙◌, not-true, not-false, arith}
 use Rattle.row_text.proofs.InRow.{scan-none, scan-one, scan-yes, scan-no, scan-place, holding-long}
 use Rattle.row_text.proofs.parse.scan.Goals as goal

@@ -1,5 +1,4 @@
--- The words hold the Paulis read so far, and these go on to be the row of the text, if it is one (InRow.Scan): a piece adds its Pauli, and where none
--- may come next no row has the text (Scanning.scan-stops).
+-- The words hold the Paulis read so far, and these go on to be the row of the text, if it is one (InRow.Scan).
 use Rattle.row_text.proofs.Kit.{◌-◌, length}
 use Rattle.row_text.proofs.InRow.{Scan}
 use Rattle.row_text.proofs.parse.scan.Given as goal

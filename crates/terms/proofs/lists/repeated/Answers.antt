@@ -1,3 +1,4 @@
+-- A number that finds a mark is there twice (`marked-here`), and else marking it keeps that (`marking-next`).
 use mathlib.Core.Bool.{not}
 use mathlib.Core.Path.{refl, sym, ap, ◌∙◌}
 use native.Mathlib.Omega.{arith}

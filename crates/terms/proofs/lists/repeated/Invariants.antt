@@ -1,5 +1,4 @@
--- What is left of the list has no number twice and finds no mark exactly when the whole list has no number twice (`Marking`): a number that finds
--- a mark is there twice (`marked-here`), and else marking it keeps that (`marking-next`).
+-- What is left of the list has no number twice and finds no mark exactly when the whole list has no number twice (`Marking`).
 use mathlib.Core.Path.{◌≡◌}
 use Prim.Native.Nat.{◌-◌, ◌≤◌}
 use lib.ListN.{length}

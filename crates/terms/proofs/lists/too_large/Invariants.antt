@@ -1,5 +1,4 @@
--- That some number from place i on is too large is that some number of the list is: number i is, and the answer is given (`some-hit`), or it is not
--- and can be passed over (`some_more`).
+-- That some number from place i on is too large is that some number of the list is.
 use Rattle.encoding.specs.Refusals.{some, too_large}
 use mathlib.Core.Path.{◌≡◌}
 use Prim.Native.Nat.{◌+◌, ◌-◌, ◌≤◌}

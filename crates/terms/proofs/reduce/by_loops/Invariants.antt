@@ -1,5 +1,4 @@
--- What is left of the order, done from here, is the whole order done from the start, and t is at most the number of listed rows (`Going`). A column
--- that fills the log ends it (`going-full`), any other goes one column on (`going_next`).
+-- What is left of the order, done from here, is the whole order done from the start, and t is at most the number of listed rows (`Going`).
 use Rattle.terms.proofs.Steps.{Going}
 use Rattle.terms.specs.Workers.{start}
 use Rattle.reduction.specs.Workers.{column_c}

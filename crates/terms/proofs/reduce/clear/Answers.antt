@@ -1,3 +1,4 @@
+-- A turn that fills the log ends the run of the list (`going-full`), any other goes one row on (`going_next`).
 use Rattle.terms.proofs.Steps.{does-as, going_start, going_next, going-full, going_end}
 use Rattle.terms.specs.Workers.{run_of}
 use Rattle.reduction.specs.Workers.{turn_c}

@@ -1,5 +1,4 @@
--- What is left of the list, done from here, is the whole list done from the start; the log so far, and what lies past it, are kept (`Going`). A
--- turn that fills the log ends it (`going-full`), any other goes one row on (`going_next`).
+-- What is left of the list, done from here, is the whole list done from the start; the log so far, and what lies past it, are kept (`Going`).
 use Rattle.terms.proofs.Steps.{Going}
 use Rattle.reduction.specs.Workers.{turn_c}
 use Rattle.reduction.specs.Log.{capacity}

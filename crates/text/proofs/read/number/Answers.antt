@@ -1,3 +1,4 @@
+-- A turn ends at no digit, at a digit that may not stand there, or takes one; what takes says keeps the number within `most`, so that nothing wraps.
 use Rattle.text.proofs.Kit.{sym, ◌∙◌, arith}
 use Rattle.text.proofs.Reading.{begun, at-end, at_other, refused, taken}
 use Rattle.text.proofs.read.number.Goals as goal

@@ -1,5 +1,4 @@
--- What is left, read on behind the digits passed, is the whole, read from the start (Reading): a turn ends at no digit, at a digit
--- that may not stand there, or takes one; what takes says keeps the number within `most`, so that nothing wraps.
+-- What is left, read on behind the digits passed, is the whole, read from the start (Reading).
 use Rattle.text.proofs.Kit.{◌-◌, length}
 use Rattle.text.proofs.Reading.{Reading}
 use Rattle.text.proofs.read.number.Given as goal
