@@ -1,2 +1,1 @@
-pub mod Paulis
 pub mod Settled

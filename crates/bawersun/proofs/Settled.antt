@@ -3,15 +3,14 @@
 use mathlib.Core.Path.{◌≡◌, sym, ap, ◌∙◌, refl}
 use mathlib.Core.List.{List}
 use Prim.Native.Nat.{ℕ}
-use Rattle.encoding.specs.declared.Answer.{Answer}
-use Rattle.terms.specs.Calls.{reduced_number}
-use Rattle.terms.specs.declared.Canonicalized.{Canonicalized}
+use Rattle.std.specs.Prelude.{Result}
+use Rattle.encoding.specs.declared.Refusal.{Refusal}
+use Rattle.terms.specs.Calls.{ReductionAnswer, reduced_number}
 use Rattle.pwl.proofs.Meaning.{write-determined, read-determined}
 use Rattle.pwl.specs.Calls.{Outputs, Writes, Reads, opened}
 use Rattle.pwl.specs.File.{Run}
 use Rattle.pwl.specs.declared.Front.{Front}
-use Rattle.bawersun.specs.Files.{opened_seen, image_seen}
-use Rattle.bawersun.specs.Told.{Told, Exactly, Seen, number_in, value_in, Gives, Number, number_of, Counted, entries_or, pivots_or}
+use Rattle.bawersun.specs.Told.{Told, Exactly, Seen, number_in, value_in, Gives, value_seen, Number, number_of, Counted, entries_or, pivots_or}
 
 -- a call whose contract settles its answer and what it leaves
 abbrev One : {A O : Type 0} → (O → A → Type 0) → Type 0
@@ -28,14 +27,14 @@ told-one {A} Call seen one {o} {o'} {old} t u =
     )
 
 -- a number alone
-pub number-one : {O : Type 0} (Call : O → Answer → Type 0) → One Call
+pub number-one : {O : Type 0} (Call : O → Result Unit Refusal → Type 0) → One Call
     → {o o' : O} {r r' : ℕ} → Told (Call o) (Number r) → Told (Call o') (Number r') → (o ≡ o') × (r ≡ r')
 number-one Call one {o} {o'} t u =
     let e = one o o' t.given u.given t.call u.call in
     (e.1, t.seen ∙ ap number_of e.0 ∙ sym u.seen)
 
 -- a reduction: the entries k and the pivots h
-pub counted-one : {O : Type 0} (Call : O → Canonicalized → Type 0) → One Call
+pub counted-one : {O : Type 0} (Call : O → ReductionAnswer → Type 0) → One Call
     → {o o' : O} {k h k₁ h₁ k₂ h₂ r r' : ℕ} → Told (Call o) (Counted k h k₁ h₁ r) → Told (Call o') (Counted k h k₂ h₂ r')
     → (o ≡ o') × (r ≡ r') × (k₁ ≡ k₂) × (h₁ ≡ h₂)
 counted-one Call one {o} {o'} {k} {h} t u =
@@ -47,18 +46,18 @@ counted-one Call one {o} {o'} {k} {h} t u =
     )
 
 pub write-one : (R : Run) (out : List ℕ) {p p' : List ℕ} {old new new' r r' : ℕ}
-    → Told (Writes R out p) (Gives image_seen old new r) → Told (Writes R out p') (Gives image_seen old new' r')
+    → Told (Writes R out p) (Gives value_seen old new r) → Told (Writes R out p') (Gives value_seen old new' r')
     → (p ≡ p') × (r ≡ r') × (new ≡ new')
-write-one R out = told-one (Writes R out) image_seen (λ p p' a a'. write-determined R)
+write-one R out = told-one (Writes R out) value_seen (λ p p' a a'. write-determined R)
 
 pub read_one : (s : List ℕ) (o : Outputs) {p p' : Outputs} {old new new' : Front} {r r' : ℕ}
-    → Told (Reads s o p) (Gives opened_seen old new r) → Told (Reads s o p') (Gives opened_seen old new' r')
+    → Told (Reads s o p) (Gives value_seen old new r) → Told (Reads s o p') (Gives value_seen old new' r')
     → (p ≡ p') × (r ≡ r') × (new ≡ new')
-read_one s o = told-one (Reads s o) opened_seen (λ p p' a a'. read-determined s)
+read_one s o = told-one (Reads s o) value_seen (λ p p' a a'. read-determined s)
 
 pub open-one : (s : List ℕ) {old new new' : Front} {r r' : ℕ}
-    → Told (Exactly (opened s)) (Gives opened_seen old new r) → Told (Exactly (opened s)) (Gives opened_seen old new' r')
+    → Told (Exactly (opened s)) (Gives value_seen old new r) → Told (Exactly (opened s)) (Gives value_seen old new' r')
     → (r ≡ r') × (new ≡ new')
 open-one s t u =
-    let e = told-one (λ (o : Unit {0}). Exactly (opened s)) opened_seen (λ o o' a a' c d. (c ∙ sym d, refl)) t u in
+    let e = told-one (λ (o : Unit {0}). Exactly (opened s)) value_seen (λ o o' a a' c d. (c ∙ sym d, refl)) t u in
     (e.1, e.2)

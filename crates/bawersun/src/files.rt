@@ -2,14 +2,16 @@
 ghost use Rattle.pwl.specs.File.{run};
 ghost use Rattle.pwl.specs.File.{front_of};
 ghost use Rattle.pwl.specs.Calls.{opened, Writes, Reads, outputs};
-ghost use Rattle.bawersun.specs.Told.{Told, Exactly, Gives};
-ghost use Rattle.bawersun.specs.Files.{opened_seen, image_seen};
+ghost use Rattle.bawersun.specs.Told.{Told, Exactly, Gives, value_seen};
 
-use pwl::{Opened, Written};
+use crate::told;
+use encoding::Refusal;
+use pwl::Front;
+use terms::Lists;
 
 // What is seen of a file that is opened or read; where there is no front, the numbers stay.
 fn fronted(
-    a: Opened,
+    a: Result<Front, Refusal>,
     n: &mut usize,
     m: &mut usize,
     order: &mut usize,
@@ -17,11 +19,11 @@ fn fronted(
     extra: &mut usize,
     entries: &mut usize,
 ) -> u8
-    ensures { Gives opened_seen (front_of n.old m.old order.old listed.old extra.old entries.old)
+    ensures { Gives value_seen (front_of n.old m.old order.old listed.old extra.old entries.old)
         (front_of n.new m.new order.new listed.new extra.new entries.new) result a }
 {
     match a {
-        Opened::Whole(f) => {
+        Ok(f) => {
             *n = f.n;
             *m = f.m;
             *order = f.order;
@@ -30,7 +32,7 @@ fn fronted(
             *entries = f.entries;
             0
         }
-        Opened::Refused(k) => k,
+        Err(r) => r.0,
     }
 }
 
@@ -45,22 +47,9 @@ pub extern "C" fn bawersun_pwl_open(
     entries: &mut usize,
 ) -> u8
     ensures { Told (Exactly (opened file.now))
-        (Gives opened_seen (front_of n.old m.old order.old listed.old extra.old entries.old) (front_of n.new m.new order.new listed.new extra.new entries.new) result) }
+        (Gives value_seen (front_of n.old m.old order.old listed.old extra.old entries.old) (front_of n.new m.new order.new listed.new extra.new entries.new) result) }
 {
     fronted(pwl::open(file), n, m, order, listed, extra, entries)
-}
-
-// What is seen of a file that is written; where there is no length, the number stays.
-fn imaged(a: Written, length: &mut usize) -> u8
-    ensures { Gives image_seen length.old length.new result a }
-{
-    match a {
-        Written::Length(l) => {
-            *length = l;
-            0
-        }
-        Written::Refused(k) => k,
-    }
 }
 
 #[unsafe(no_mangle)]
@@ -81,12 +70,15 @@ pub extern "C" fn bawersun_pwl_write(
     length: &mut usize,
 ) -> u8
     ensures { Told (Writes (run n m order.now listed.now extra.now x.now z.now phases.now log.now cx.now cz.now cphases.now) out.old out.new)
-        (Gives image_seen length.old length.new result) }
+        (Gives value_seen length.old length.new result) }
 {
-    let a = pwl::write(
-        n, m, x, z, phases, order, listed, extra, log, cx, cz, cphases, out,
-    );
-    imaged(a, length)
+    let lists = Lists {
+        order,
+        listed,
+        extra,
+    };
+    let a = pwl::write(n, m, x, z, phases, &lists, log, cx, cz, cphases, out);
+    told(a, length)
 }
 
 #[unsafe(no_mangle)]
@@ -105,7 +97,7 @@ pub extern "C" fn bawersun_pwl_read(
     entries: &mut usize,
 ) -> u8
     ensures { Told (Reads file.now (outputs units.old x.old z.old phases.old claimed.old) (outputs units.new x.new z.new phases.new claimed.new))
-        (Gives opened_seen (front_of n.old m.old order.old listed.old extra.old entries.old) (front_of n.new m.new order.new listed.new extra.new entries.new) result) }
+        (Gives value_seen (front_of n.old m.old order.old listed.old extra.old entries.old) (front_of n.new m.new order.new listed.new extra.new entries.new) result) }
 {
     let a = pwl::read(file, units, x, z, phases, claimed);
     fronted(a, n, m, order, listed, extra, entries)

@@ -20,19 +20,16 @@ ghost use Rattle.clifford.specs.Calls.{Conjugates};
 ghost use Rattle.mat_elem.specs.float.Product.{MatElem};
 ghost use Rattle.mat_elem.specs.whole.Sums as whole;
 ghost use Rattle.mat_elem.specs.states.Vectors as states;
-ghost use Rattle.bawersun.specs.Told.{Told, Exactly, Gives, Number, number_of};
-ghost use Rattle.bawersun.specs.Told.{pauli_number, pauli_of, row_for, got_seen, tally_seen, truth_bit, truth_seen, written_seen, phase_seen, clashes_seen};
-ghost use Rattle.bawersun.specs.Told.{Counted, verdict_seen, CheckedOn, undone_seen, h_of, s_of, cx_of, parts, element_seen, whole_seen, total_seen};
+ghost use Rattle.bawersun.specs.Told.{Told, Exactly, Gives, value_seen, Number, number_of};
+ghost use Rattle.bawersun.specs.Told.{pauli_number, pauli_of, pauli_or, row_for, got_seen, truth_seen, phase_seen};
+ghost use Rattle.bawersun.specs.Told.{Counted, verdict_seen, CheckedOn, undone_seen, h_of, s_of, cx_of, parts, element_seen};
 
-use cmpnt_list::{Got, Phase, Tally, Truth};
-use encoding::Answer;
+use checked::Complex;
+use encoding::{Refusal, RowSet};
 use gates::Gate;
-use mat_elem::float::Element;
-use mat_elem::states::Total;
 use pauli::{PauliMatrix, QubitNumber, RowNumber};
-use replay::{Undone, Verdict};
-use row_text::Written;
-use terms::{Canonicalized, Clashes};
+use replay::{NotUndone, Verdict};
+use terms::{Canonicalized, Lists, Stopped};
 
 // What stands for a verdict other than yes, and for no block, beside the refusal numbers.
 pub const DIFFERS: u8 = 252;
@@ -44,30 +41,40 @@ pub const NOT_REDUCED: u8 = 254;
 pub const NO_BLOCK: u8 = 255;
 
 // 0 for done, else the refusal's number.
-fn number(a: Answer) -> u8
+fn number(a: Result<(), Refusal>) -> u8
     ensures { result ≡ number_of a }
 {
     match a {
-        Answer::Done => 0,
-        Answer::Refused(k) => k,
+        Ok(()) => 0,
+        Err(r) => r.0,
+    }
+}
+
+// The same of a call that gives a value, which comes in its place; where there is none, what stood there stays.
+fn told<T: Copy>(a: Result<T, Refusal>, place: &mut T) -> u8
+    ensures { Gives value_seen place.old place.new result a }
+{
+    match a {
+        Ok(v) => {
+            *place = v;
+            0
+        }
+        Err(r) => r.0,
     }
 }
 
 // ---- Paulis
 
-fn pauli_of(k: u8) -> PauliMatrix
+// The Pauli of a number; none above 3.
+fn pauli_of(k: u8) -> Option<PauliMatrix>
     ensures { result ≡ pauli_of k }
 {
-    if k == 1 {
-        return PauliMatrix::X;
-    }
-    if k == 2 {
-        return PauliMatrix::Y;
-    }
-    if k == 3 {
-        PauliMatrix::Z
-    } else {
-        PauliMatrix::I
+    match k {
+        0 => Some(PauliMatrix::I),
+        1 => Some(PauliMatrix::X),
+        2 => Some(PauliMatrix::Y),
+        3 => Some(PauliMatrix::Z),
+        _ => None,
     }
 }
 
@@ -82,26 +89,13 @@ fn pauli_number(p: PauliMatrix) -> u8
     }
 }
 
-// The row that is asked for; a row too large where the number is no Pauli's.
-fn row_for(pauli: u8, m: usize, row: usize) -> usize
-    ensures { result ≡ row_for pauli m row }
+// The row that is asked for; a row too large where there is no Pauli.
+fn row_for(p: Option<PauliMatrix>, m: usize, row: usize) -> RowNumber
+    ensures { result.0 ≡ row_for p m row }
 {
-    if 3 < pauli {
-        return m;
-    }
-    row
-}
-
-// What is seen of a qubit that is read: where there is no answer, the number stays.
-fn read(a: Got, pauli: &mut u8) -> u8
-    ensures { Gives got_seen pauli.old pauli.new result a }
-{
-    match a {
-        Got::Is(p) => {
-            *pauli = pauli_number(p);
-            0
-        }
-        Got::Refused(k) => k,
+    match p {
+        Some(_) => RowNumber(row),
+        None => RowNumber(m),
     }
 }
 
@@ -119,8 +113,9 @@ pub extern "C" fn bawersun_get_qubit(
     ensures { Told (Exactly (get_qubit n (mem_of m x.now z.now phases.now) row qubit))
         (Gives got_seen pauli.old pauli.new result) }
 {
-    let a = cmpnt_list::get_qubit(n, m, x, z, phases, RowNumber(row), QubitNumber(qubit));
-    read(a, pauli)
+    let set = RowSet { n, m, x, z, phases };
+    let p = cmpnt_list::get_qubit(&set, RowNumber(row), QubitNumber(qubit));
+    told(p.map(pauli_number), pauli)
 }
 
 #[unsafe(no_mangle)]
@@ -134,25 +129,13 @@ pub extern "C" fn bawersun_set_qubit(
     qubit: usize,
     pauli: u8,
 ) -> u8
-    ensures { Told (SetQubit n (mem_of m x.old z.old phases.now) (row_for pauli m row) qubit (pauli_of pauli)
+    ensures { Told (SetQubit n (mem_of m x.old z.old phases.now) (row_for (pauli_of pauli) m row) qubit (pauli_or (pauli_of pauli))
         (mem_of m x.new z.new phases.now)) (Number result) }
 {
-    let k = row_for(pauli, m, row);
     let p = pauli_of(pauli);
-    number(cmpnt_list::set_qubit(n, m, x, z, phases, RowNumber(k), QubitNumber(qubit), p))
-}
-
-// What is seen of a count.
-fn tallied(a: Tally, count: &mut u64) -> u8
-    ensures { Gives tally_seen count.old count.new result a }
-{
-    match a {
-        Tally::Number(c) => {
-            *count = c;
-            0
-        }
-        Tally::Refused(k) => k,
-    }
+    let row = row_for(p, m, row);
+    let p = p.unwrap_or(PauliMatrix::I);
+    number(cmpnt_list::set_qubit(n, m, x, z, phases, row, QubitNumber(qubit), p))
 }
 
 #[unsafe(no_mangle)]
@@ -166,34 +149,17 @@ pub extern "C" fn bawersun_count(
     pauli: u8,
     count: &mut u64,
 ) -> u8
-    ensures { Told (Exactly (count_in n (mem_of m x.now z.now phases.now) (row_for pauli m row) (pauli_of pauli)))
-        (Gives tally_seen count.old count.new result) }
+    ensures { Told (Exactly (count_in n (mem_of m x.now z.now phases.now) (row_for (pauli_of pauli) m row) (pauli_or (pauli_of pauli))))
+        (Gives value_seen count.old count.new result) }
 {
-    let k = row_for(pauli, m, row);
-    let a = cmpnt_list::count(n, m, x, z, phases, RowNumber(k), pauli_of(pauli));
-    tallied(a, count)
+    let set = RowSet { n, m, x, z, phases };
+    let p = pauli_of(pauli);
+    let row = row_for(p, m, row);
+    let p = p.unwrap_or(PauliMatrix::I);
+    told(cmpnt_list::count(&set, row, p), count)
 }
 
 // ---- questions of rows
-
-fn truth_bit(b: bool) -> u8
-    ensures { result ≡ truth_bit b }
-{
-    if b { 1 } else { 0 }
-}
-
-// What is seen of a question.
-fn answered(a: Truth, truth: &mut u8) -> u8
-    ensures { Gives truth_seen truth.old truth.new result a }
-{
-    match a {
-        Truth::Is(b) => {
-            *truth = truth_bit(b);
-            0
-        }
-        Truth::Refused(k) => k,
-    }
-}
 
 #[unsafe(no_mangle)]
 pub extern "C" fn bawersun_commutes_with(
@@ -209,8 +175,9 @@ pub extern "C" fn bawersun_commutes_with(
     ensures { Told (Exactly (commutes_with n (mem_of m x.now z.now phases.now) a b))
         (Gives truth_seen truth.old truth.new result) }
 {
-    let t = cmpnt_list::commutes_with(n, m, x, z, phases, RowNumber(a), RowNumber(b));
-    answered(t, truth)
+    let set = RowSet { n, m, x, z, phases };
+    let t = cmpnt_list::commutes_with(&set, RowNumber(a), RowNumber(b));
+    told(t.map(u8::from), truth)
 }
 
 #[unsafe(no_mangle)]
@@ -226,8 +193,9 @@ pub extern "C" fn bawersun_belongs_to_centralizer(
     ensures { Told (Exactly (belongs_to_centralizer n (mem_of m x.now z.now phases.now) row))
         (Gives truth_seen truth.old truth.new result) }
 {
-    let t = cmpnt_list::belongs_to_centralizer(n, m, x, z, phases, RowNumber(row));
-    answered(t, truth)
+    let set = RowSet { n, m, x, z, phases };
+    let t = cmpnt_list::belongs_to_centralizer(&set, RowNumber(row));
+    told(t.map(u8::from), truth)
 }
 
 #[unsafe(no_mangle)]
@@ -241,7 +209,8 @@ pub extern "C" fn bawersun_compatibility_matrix(
 ) -> u8
     ensures { Told (CompatibilityMatrix n (mem_of m x.now z.now phases.now) out.old out.new) (Number result) }
 {
-    number(cmpnt_list::compatibility_matrix(n, m, x, z, phases, out))
+    let set = RowSet { n, m, x, z, phases };
+    number(cmpnt_list::compatibility_matrix(&set, out))
 }
 
 #[unsafe(no_mangle)]
@@ -266,19 +235,6 @@ pub extern "C" fn bawersun_cmpnts_mul_pairwise(
     number(cmpnt_list::cmpnts_mul_pairwise(n, m, lx, lz, lp, rx, rz, rp, ox, oz, op, clashes))
 }
 
-// What is seen of the exponent of a product or an action.
-fn phased(a: Phase, exponent: &mut u8) -> u8
-    ensures { Gives phase_seen exponent.old exponent.new result a }
-{
-    match a {
-        Phase::Exponent(e) => {
-            *exponent = e.0;
-            0
-        }
-        Phase::Refused(k) => k,
-    }
-}
-
 #[unsafe(no_mangle)]
 pub extern "C" fn bawersun_phase_of_mul(
     n: usize,
@@ -293,8 +249,9 @@ pub extern "C" fn bawersun_phase_of_mul(
     ensures { Told (Exactly (phase_of_mul n (mem_of m x.now z.now phases.now) a b))
         (Gives phase_seen exponent.old exponent.new result) }
 {
-    let e = cmpnt_list::phase_of_mul(n, m, x, z, phases, RowNumber(a), RowNumber(b));
-    phased(e, exponent)
+    let set = RowSet { n, m, x, z, phases };
+    let e = cmpnt_list::phase_of_mul(&set, RowNumber(a), RowNumber(b));
+    told(e.map(|e| e.0), exponent)
 }
 
 #[unsafe(no_mangle)]
@@ -311,8 +268,9 @@ pub extern "C" fn bawersun_phase_of_mul_by_table(
     ensures { Told (Exactly (phase_of_mul n (mem_of m x.now z.now phases.now) a b))
         (Gives phase_seen exponent.old exponent.new result) }
 {
-    let e = cmpnt_list::phase_of_mul_by_table(n, m, x, z, phases, RowNumber(a), RowNumber(b));
-    phased(e, exponent)
+    let set = RowSet { n, m, x, z, phases };
+    let e = cmpnt_list::phase_of_mul_by_table(&set, RowNumber(a), RowNumber(b));
+    told(e.map(|e| e.0), exponent)
 }
 
 #[unsafe(no_mangle)]
@@ -329,21 +287,9 @@ pub extern "C" fn bawersun_imul_state(
     ensures { Told (ImulState n (mem_of m x.now z.now phases.now) row state.old state.new)
         (Gives phase_seen exponent.old exponent.new result) }
 {
-    let e = cmpnt_list::imul_state(n, m, x, z, phases, RowNumber(row), state);
-    phased(e, exponent)
-}
-
-// What is seen of a product in place.
-fn multiplied(a: Clashes, clashes: &mut u16) -> u8
-    ensures { Gives clashes_seen clashes.old clashes.new result a }
-{
-    match a {
-        Clashes::Number(c) => {
-            *clashes = c;
-            0
-        }
-        Clashes::Refused(k) => k,
-    }
+    let set = RowSet { n, m, x, z, phases };
+    let e = cmpnt_list::imul_state(&set, RowNumber(row), state);
+    told(e.map(|e| e.0), exponent)
 }
 
 #[unsafe(no_mangle)]
@@ -358,27 +304,27 @@ pub extern "C" fn bawersun_imul(
     clashes: &mut u16,
 ) -> u8
     ensures { Told (Multiplies n a b (mem_of m x.old z.old phases.old) (mem_of m x.new z.new phases.new))
-        (Gives clashes_seen clashes.old clashes.new result) }
+        (Gives value_seen clashes.old clashes.new result) }
 {
-    let d = terms::imul(n, m, x, z, phases, RowNumber(a), RowNumber(b));
-    multiplied(d, clashes)
+    let c = terms::imul(n, m, x, z, phases, RowNumber(a), RowNumber(b));
+    told(c, clashes)
 }
 
 // What is seen of a reduction's answer: where it gives no number, the one that stands there stays.
-fn counted(a: Canonicalized, entries: &mut usize, t: &mut usize) -> u8
+fn counted(a: Result<Canonicalized, Stopped>, entries: &mut usize, t: &mut usize) -> u8
     ensures { Counted entries.old t.old entries.new t.new result a }
 {
     match a {
-        Canonicalized::Done { entries: e, t: p } => {
-            *entries = e;
-            *t = p;
+        Ok(c) => {
+            *entries = c.entries;
+            *t = c.t;
             0
         }
-        Canonicalized::Full(capacity) => {
+        Err(Stopped::Full(capacity)) => {
             *entries = capacity;
-            8
+            Refusal::FULL_LOG.0
         }
-        Canonicalized::Refused(k) => k,
+        Err(Stopped::Refused(r)) => r.0,
     }
 }
 
@@ -399,7 +345,12 @@ pub extern "C" fn bawersun_canonicalize(
     ensures { Told (Reduces n order.now listed.now extra.now (mem_of m x.old z.old phases.old) log.old
         (mem_of m x.new z.new phases.new) log.new) (Counted entries.old t.old entries.new t.new result) }
 {
-    let a = terms::canonicalize(n, m, x, z, phases, order, listed, extra, log);
+    let lists = Lists {
+        order,
+        listed,
+        extra,
+    };
+    let a = terms::canonicalize(n, m, x, z, phases, &lists, log);
     counted(a, entries, t)
 }
 
@@ -422,21 +373,21 @@ pub extern "C" fn bawersun_canonicalize_all(
 }
 
 // What is seen of a verdict: where it names no place, the number stays.
-fn placed(a: Verdict, place: &mut usize) -> u8
+fn placed(a: Result<Verdict, Refusal>, place: &mut usize) -> u8
     ensures { Gives verdict_seen place.old place.new result a }
 {
     match a {
-        Verdict::BadEntry(k) => {
+        Ok(Verdict::BadEntry(k)) => {
             *place = k;
             BAD_ENTRY
         }
-        Verdict::Differs(k) => {
+        Ok(Verdict::Differs(k)) => {
             *place = k;
             DIFFERS
         }
-        Verdict::NotReduced => NOT_REDUCED,
-        Verdict::Yes => 0,
-        Verdict::Refused(k) => k,
+        Ok(Verdict::NotReduced) => NOT_REDUCED,
+        Ok(Verdict::Yes) => 0,
+        Err(r) => r.0,
     }
 }
 
@@ -460,23 +411,26 @@ pub extern "C" fn bawersun_check(
         (claim log.now (mem_of m cx.now cz.now cphases.now)) (mem_of m x.new z.new phases.new))
         (Gives verdict_seen place.old place.new result) }
 {
-    let v = replay::check(
-        n, m, x, z, phases, order, listed, extra, log, cx, cz, cphases,
-    );
+    let lists = Lists {
+        order,
+        listed,
+        extra,
+    };
+    let v = replay::check(n, m, x, z, phases, &lists, log, cx, cz, cphases);
     placed(v, place)
 }
 
 // What is seen of walking back.
-fn walked(a: Undone, place: &mut usize) -> u8
+fn walked(a: Result<(), NotUndone>, place: &mut usize) -> u8
     ensures { Gives undone_seen place.old place.new result a }
 {
     match a {
-        Undone::BadEntry(k) => {
+        Ok(()) => 0,
+        Err(NotUndone::BadEntry(k)) => {
             *place = k;
             BAD_ENTRY
         }
-        Undone::Done => 0,
-        Undone::Refused(k) => k,
+        Err(NotUndone::Refused(r)) => r.0,
     }
 }
 
@@ -495,24 +449,16 @@ pub extern "C" fn bawersun_undo(
     ensures { Told (Undoes n listed.now extra.now log.now (mem_of m x.old z.old phases.old) (mem_of m x.new z.new phases.new))
         (Gives undone_seen place.old place.new result) }
 {
-    let a = replay::undo::undo(n, m, x, z, phases, listed, extra, log);
+    let lists = Lists {
+        order: &[],
+        listed,
+        extra,
+    };
+    let a = replay::undo::undo(n, m, x, z, phases, &lists, log);
     walked(a, place)
 }
 
 // ---- the text of a row
-
-// What is seen of a text that is written.
-fn sized(a: Written, length: &mut usize) -> u8
-    ensures { Gives written_seen length.old length.new result a }
-{
-    match a {
-        Written::Length(l) => {
-            *length = l;
-            0
-        }
-        Written::Refused(k) => k,
-    }
-}
 
 #[unsafe(no_mangle)]
 pub extern "C" fn bawersun_fmt_elem(
@@ -526,10 +472,10 @@ pub extern "C" fn bawersun_fmt_elem(
     length: &mut usize,
 ) -> u8
     ensures { Told (FmtElem n (mem_of m x.now z.now phases.now) row out.old out.new)
-        (Gives written_seen length.old length.new result) }
+        (Gives value_seen length.old length.new result) }
 {
-    let a = row_text::fmt_elem(n, m, x, z, phases, RowNumber(row), out);
-    sized(a, length)
+    let set = RowSet { n, m, x, z, phases };
+    told(row_text::fmt_elem(&set, RowNumber(row), out), length)
 }
 
 #[unsafe(no_mangle)]
@@ -600,18 +546,32 @@ pub extern "C" fn bawersun_conj_cx(
 
 // ---- matrix elements
 
-// What is seen of a matrix element: where there is no sum, the parts stay.
-fn parted(a: Element, real: &mut f64, imag: &mut f64) -> u8
+// What is seen of a sum, whose parts come through a reference each; where there is none, they stay.
+fn summed<T: Copy>(a: Result<Complex<T>, Refusal>, real: &mut T, imag: &mut T) -> u8
+    ensures { Gives value_seen (parts real.old imag.old) (parts real.new imag.new) result a }
+{
+    match a {
+        Ok(c) => {
+            *real = c.re;
+            *imag = c.im;
+            0
+        }
+        Err(r) => r.0,
+    }
+}
+
+// The same of a matrix element, which may have no block.
+fn parted<T: Copy>(a: Result<Option<Complex<T>>, Refusal>, real: &mut T, imag: &mut T) -> u8
     ensures { Gives element_seen (parts real.old imag.old) (parts real.new imag.new) result a }
 {
     match a {
-        Element::Sum(re, im) => {
-            *real = re;
-            *imag = im;
+        Ok(Some(c)) => {
+            *real = c.re;
+            *imag = c.im;
             0
         }
-        Element::NoBlock => NO_BLOCK,
-        Element::Refused(k) => k,
+        Ok(None) => NO_BLOCK,
+        Err(r) => r.0,
     }
 }
 
@@ -634,21 +594,6 @@ pub extern "C" fn bawersun_mat_elem_cmpnts_from_presorted(
     parted(a, real, imag)
 }
 
-// What is seen of an element in whole numbers.
-fn summed(a: mat_elem::whole::Element, real: &mut i64, imag: &mut i64) -> u8
-    ensures { Gives whole_seen (parts real.old imag.old) (parts real.new imag.new) result a }
-{
-    match a {
-        mat_elem::whole::Element::Sum(re, im) => {
-            *real = re;
-            *imag = im;
-            0
-        }
-        mat_elem::whole::Element::NoBlock => NO_BLOCK,
-        mat_elem::whole::Element::Refused(k) => k,
-    }
-}
-
 #[unsafe(no_mangle)]
 pub extern "C" fn bawersun_mat_elem_cmpnts_from_presorted_whole(
     n: usize,
@@ -662,24 +607,10 @@ pub extern "C" fn bawersun_mat_elem_cmpnts_from_presorted_whole(
     imag: &mut i64,
 ) -> u8
     ensures { Told (whole.MatElem n (x.now) (z.now) (re.now) (im.now) bra ket)
-        (Gives whole_seen (parts real.old imag.old) (parts real.new imag.new) result) }
+        (Gives element_seen (parts real.old imag.old) (parts real.new imag.new) result) }
 {
     let a = mat_elem::whole::mat_elem_cmpnts_from_presorted(n, x, z, re, im, bra, ket);
-    summed(a, real, imag)
-}
-
-// What is seen of a sum over pairs.
-fn totalled(a: Total, real: &mut i64, imag: &mut i64) -> u8
-    ensures { Gives total_seen (parts real.old imag.old) (parts real.new imag.new) result a }
-{
-    match a {
-        Total::Sum(re, im) => {
-            *real = re;
-            *imag = im;
-            0
-        }
-        Total::Refused(k) => k,
-    }
+    parted(a, real, imag)
 }
 
 #[unsafe(no_mangle)]
@@ -699,12 +630,12 @@ pub extern "C" fn bawersun_mat_elem_from_presorted(
     imag: &mut i64,
 ) -> u8
     ensures { Told (states.MatElem n (terms x.now z.now re.now im.now) (state bras.now bre.now bim.now) (state kets.now kre.now kim.now))
-        (Gives total_seen (parts real.old imag.old) (parts real.new imag.new) result) }
+        (Gives value_seen (parts real.old imag.old) (parts real.new imag.new) result) }
 {
     let a = mat_elem::states::mat_elem_from_presorted(
         n, x, z, re, im, bras, bre, bim, kets, kre, kim,
     );
-    totalled(a, real, imag)
+    summed(a, real, imag)
 }
 
 // ---- words

@@ -14,15 +14,14 @@ use Rattle.pauli.proofs.Meaning.{commute-iff}
 use Rattle.encoding.specs.Limits.{words_of}
 use Rattle.encoding.specs.Words.{bit_at}
 use Rattle.encoding.specs.Set.{Mem, count, rows_of}
-use Rattle.encoding.specs.declared.Answer.TheVariants.{Done}
+use Rattle.std.specs.Prelude.{Ok}
 use Rattle.cmpnt_list.specs.Calls.{CompatibilityMatrix, MulPairwise}
 use Rattle.cmpnt_list.proofs.Tests.{Words64}
 use Rattle.cmpnt_list.proofs.Meaning.{matrix-meaning, pairwise-number}
 use Rattle.terms.specs.Calls.{Multiplies}
-use Rattle.terms.specs.declared.Clashes.TheVariants.{Number}
 use Rattle.terms.proofs.Meaning.{imul-number}
 
-module _ (n : ℕ) {M : Mem} {out out' : List ℕ} (c : CompatibilityMatrix n M out out' Done) (i j : ℕ) (hi : i < count M) (hj : j < count M) where
+module _ (n : ℕ) {M : Mem} {out out' : List ℕ} (c : CompatibilityMatrix n M out out' (Ok tt)) (i j : ℕ) (hi : i < count M) (hj : j < count M) where
   matrix-number : (d : ℕ) → d ≡ clashes_of n (rows_of n M i) (rows_of n M j) → (bit_at out' (i * words_of (count M) + j / 64) (j % 64) ≡ true) ↔ (d % 2 ≡ 0)
   unfolding commute
   matrix-number d e =
@@ -33,10 +32,10 @@ module _ (n : ℕ) {M : Mem} {out out' : List ℕ} (c : CompatibilityMatrix n M 
       )
 
   -- row i by row j in place
-  pub matrix-imul : {M' : Mem} {d : ℕ} → Multiplies n i j M M' (Number d) → (bit_at out' (i * words_of (count M) + j / 64) (j % 64) ≡ true) ↔ (d % 2 ≡ 0)
+  pub matrix-imul : {M' : Mem} {d : ℕ} → Multiplies n i j M M' (Ok d) → (bit_at out' (i * words_of (count M) + j / 64) (j % 64) ≡ true) ↔ (d % 2 ≡ 0)
   matrix-imul {M'} {d} p = matrix-number d (imul-number n i j p)
 
   -- rows i and j as row k of the left set and of the right one
-  pub matrix-pairwise : {L R O O' : Mem} {cs cs' : List ℕ} → Words64 L → Words64 R → MulPairwise n L R O O' cs cs' Done → (k : ℕ) → k < count L
+  pub matrix-pairwise : {L R O O' : Mem} {cs cs' : List ℕ} → Words64 L → Words64 R → MulPairwise n L R O O' cs cs' (Ok tt) → (k : ℕ) → k < count L
       → rows_of n L k ≡ rows_of n M i → rows_of n R k ≡ rows_of n M j → (bit_at out' (i * words_of (count M) + j / 64) (j % 64) ≡ true) ↔ (get_or cs' k 0 % 2 ≡ 0)
   matrix-pairwise {L} {R} {O} {O'} {cs} {cs'} wl wr p k h l r = matrix-number (get_or cs' k 0) (pairwise-number n wl wr p k h ∙ ap₂ (clashes_of n) l r)

@@ -1,6 +1,3 @@
 -- The standard names, from one place.
 pub use Rattle.text.proofs.Kit.{◌≡◌, refl, sym, ap, ◌∙◌, subst, Bool, true, false, cond, not, ◌&&◌, List, [], ◌∷◌, ◌++◌, ℕ, zero, suc, ◌+◌, ◌*◌, ◌-◌, ◌<◌, ◌≤◌, arith, rules, length, take, drop, get_or, eqb, eqb-true, eqb-false, eq-eqb, ne_eqb, not-true, not-false, by, add-one, drop-cons, drop_of_length-le}
-pub use Rattle.text.proofs.Adding.{adds-both, adds-empty}
 pub use Rattle.text.specs.Readers.{Got, none, got, answer, Reads}
-pub use Rattle.text.specs.Workers.{Adds}
-pub use Rattle.forms.proofs.Reading.{reads_then, reads-one, reads_more, reads_both, filled, line-end}

@@ -1,5 +1,4 @@
 pub mod Kit
 pub mod Said
 pub mod Left
-pub mod Gating
 pub mod Lined

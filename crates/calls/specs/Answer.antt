@@ -1,7 +1,6 @@
 -- docs/CALLS.md as a definition: the bytes that answer a line. Each call is said by the fields of its line, in order, and by the answer to them, which is
 -- that of the library's own definitions; a line that is not of the form is a bad line. Assumes nothing.
-use Rattle.std.specs.Prelude.{Bool, cond, ◌||◌, List, [], ◌∷◌, ◌++◌, ℕ, zero, suc, ◌%◌, eqb, ltb, length, take, drop}
-use Rattle.std.proofs.Math.Option.{Option, some, none as unsaid}
+use Rattle.std.specs.Prelude.{Bool, cond, ◌||◌, List, [], ◌∷◌, ◌++◌, ℕ, zero, suc, ◌%◌, eqb, ltb, length, take, drop, Option, Some, None as unsaid}
 use Rattle.std.specs.Int.Bits.{bit_xor}
 use Rattle.pauli.specs.Pauli.{Pauli, phases, act_phase}
 use Rattle.pauli.specs.declared.PauliMatrix.TheVariants.{I, X, Y, Z}
@@ -20,7 +19,6 @@ use Rattle.row_text.specs.Text.{text_of, row_of}
 use Rattle.row_text.specs.Calls.{parse_fault, with_row}
 use Rattle.reduction.specs.Rule.{mul_at}
 use Rattle.text.specs.Readers.{Got, none, got, starts}
-use Rattle.text.specs.declared.write.Put.{Put}
 use Rattle.text.specs.Numbers.{octet}
 use Rattle.text.specs.Lists.{list as list_of}
 use Rattle.text.specs.Lines.{word, one, field, field_of, fields, last}
@@ -170,9 +168,9 @@ gated n M t = closed (field gate) (conjugated n M) t
 -- ---- the call that a line names; none where what it answers is not said here
 
 abbrev pub lends : Lends → ℕ → Mem → List ℕ → Option (List ℕ)
-lends Act n M t = some (act_in most_words n M t)
-lends Matrix n M t = some (matrix_in most_words n M t)
-lends Write n M t = some (write_in most_text n M t)
+lends Act n M t = Some (act_in most_words n M t)
+lends Matrix n M t = Some (matrix_in most_words n M t)
+lends Write n M t = Some (write_in most_text n M t)
 lends Pair n M t = unsaid
 
 abbrev pub changes : Changes → ℕ → Mem → List ℕ → List ℕ
@@ -183,15 +181,15 @@ changes change.Read n M t = read_line n M t
 changes change.Readx n M t = readx_in most_text n M t
 
 abbrev pub on_set : OnSet → ℕ → Mem → List ℕ → Option (List ℕ)
-on_set (Two c) n M t = some (two c n M t)
-on_set (One c) n M t = some (one' c n M t)
+on_set (Two c) n M t = Some (two c n M t)
+on_set (One c) n M t = Some (one' c n M t)
 on_set (Lent c) n M t = lends c n M t
-on_set (Changed c) n M t = some (changes c n M t)
+on_set (Changed c) n M t = Some (changes c n M t)
 on_set (Reduced c) n M t = unsaid
 
 -- a set is n m X Z P, and what a call has besides stands behind
 abbrev pub behind_set : {A : Type 0} → (A → List ℕ → Option (List ℕ)) → Got A → Option (List ℕ)
-behind_set f none = some bad_line
+behind_set f none = Some bad_line
 behind_set f (got v u) = f v u
 
 unfoldable pub with_set : ℕ → ℕ → ℕ → OnSet → List ℕ → Option (List ℕ)
@@ -203,9 +201,9 @@ by_set c t = with_set most_words most_words most_phases c t
 -- ---- a line
 
 abbrev pub answer_to : Call → List ℕ → Option (List ℕ)
-answer_to Unknown t = some bad_line
-answer_to Phase1 t = some (phase1 t)
-answer_to Act1 t = some (act1 t)
+answer_to Unknown t = Some bad_line
+answer_to Phase1 t = Some (phase1 t)
+answer_to Act1 t = Some (act1 t)
 answer_to Whole t = unsaid
 answer_to FloatCall t = unsaid
 answer_to States t = unsaid
@@ -218,9 +216,9 @@ blank s = eqb (length s) 0 || starts 35 s
 
 -- the answer to a line, by the name that it starts with
 unfoldable pub answer_of : List ℕ → Option (List ℕ)
-answer_of s = cond (blank s) (some []) (answer_to (call_of (take (name_end s) s)) (drop (name_end s) s))
+answer_of s = cond (blank s) (Some []) (answer_to (call_of (take (name_end s) s)) (drop (name_end s) s))
 
 -- the answer is added behind what was written before, where that fitted
-abbrev pub Answers : Option (List ℕ) → List ℕ → Put → List ℕ → Put → Type 0
-Answers unsaid o r p q = Unit {0}
-Answers (some w) o r p q = Says w o r p q
+abbrev pub Answers : Option (List ℕ) → List ℕ → ℕ → List ℕ → Option ℕ → Type 0
+Answers unsaid o at p r = Unit {0}
+Answers (Some w) o at p r = Says w o at p r

@@ -1,8 +1,8 @@
 // Gates: every row of a set conjugated by the gate that a line names.
 ghost use Rattle.encoding.specs.Set.{mem_of};
-ghost use Rattle.std.specs.Prelude.{◌≡◌, ◌≤◌, length, drop};
-ghost use Rattle.text.specs.Readers.{Reads};
-ghost use Rattle.text.specs.Workers.{past};
+ghost use Rattle.std.specs.Prelude.{drop};
+ghost use Rattle.forms.specs.Fields.{Finds, itself, Any};
+ghost use Rattle.text.specs.Workers.{Passes};
 ghost use Rattle.text.specs.Lines.{field};
 ghost use Rattle.calls.specs.Gate.{one_qubit_gate, hadamard, turn, two_qubits, gate as gateForm};
 ghost use Rattle.forms.specs.Answers.{Says};
@@ -11,74 +11,56 @@ ghost use Rattle.calls.specs.Answer.{gated};
 use forms::{read, say};
 use gates::Gate;
 use pauli::QubitNumber;
-use text::{Put, number_field};
 
-// A gate behind a space: h q, s q, or cx control target; the place is past it.
-#[derive(Drop)]
-struct Gated {
-    ok: bool,
-    gate: Gate,
-    at: usize,
-}
-
-// The place behind the byte c; the end, where nothing is read, if it does not stand there.
-fn behind(c: u8, s: &[u8], at: usize) -> usize
-    ensures { (drop result s.now ≡ past c (drop at s.now)) × (result ≤ length s.now) }
+// The place behind the byte c, where it stands there.
+#[tactic(auto, using(text::proofs::Places::passes))]
+fn behind(c: u8, s: &[u8], at: usize) -> Option<usize>
+    ensures { Passes c s.now at result }
 {
     if text::starts(c, s, at) {
-        return at + 1;
-    }
-    s.len()
-}
-
-fn of_h(s: &[u8], at: usize) -> Gated
-    ensures { Reads (one_qubit_gate hadamard) s.now at result.ok result.gate result.at }
-{
-    let a = number_field(s, at, u64::MAX);
-    let q = QubitNumber(a.value as usize);
-    Gated {
-        ok: a.ok,
-        gate: Gate::H(q),
-        at: a.at,
+        Some(at + 1)
+    } else {
+        None
     }
 }
 
-fn of_s(s: &[u8], at: usize) -> Gated
-    ensures { Reads (one_qubit_gate turn) s.now at result.ok result.gate result.at }
+fn of_h(s: &[u8], at: usize) -> Option<(Gate, usize)>
+    ensures { Finds (one_qubit_gate hadamard) itself Any s.now at result }
 {
-    let a = number_field(s, at, u64::MAX);
-    let q = QubitNumber(a.value as usize);
-    Gated {
-        ok: a.ok,
-        gate: Gate::S(q),
-        at: a.at,
-    }
+    let (q, at) = read::number(s, at, usize::MAX)?;
+    Some((Gate::H(QubitNumber(q)), at))
 }
 
-fn of_cx(s: &[u8], at: usize) -> Gated
-    ensures { Reads two_qubits s.now at result.ok result.gate result.at }
+fn of_s(s: &[u8], at: usize) -> Option<(Gate, usize)>
+    ensures { Finds (one_qubit_gate turn) itself Any s.now at result }
 {
-    let q = read::read_two(s, at);
+    let (q, at) = read::number(s, at, usize::MAX)?;
+    Some((Gate::S(QubitNumber(q)), at))
+}
+
+fn of_cx(s: &[u8], at: usize) -> Option<(Gate, usize)>
+    ensures { Finds two_qubits itself Any s.now at result }
+{
+    let (q, at) = read::read_two(s, at)?;
     let control = QubitNumber(q.a);
     let target = QubitNumber(q.b);
-    Gated {
-        ok: q.ok,
-        gate: Gate::CX { control, target },
-        at: q.at,
-    }
+    Some((Gate::CX { control, target }, at))
 }
 
-fn read_gate(s: &[u8], at: usize) -> Gated
-    ensures { Reads (field gateForm) s.now at result.ok result.gate result.at }
+// A gate behind a space: h q, s q, or cx control target.
+fn read_gate(s: &[u8], at: usize) -> Option<(Gate, usize)>
+    ensures { Finds (field gateForm) itself Any s.now at result }
 {
-    let i = behind(b' ', s, at);
-    if text::starts(b'h', s, i) {
-        return of_h(s, behind(b'h', s, i));
+    let at = behind(b' ', s, at)?;
+    if let Some(at) = behind(b'h', s, at) {
+        return of_h(s, at);
     }
-    if text::starts(b's', s, i) {
-        return of_s(s, behind(b's', s, i));
+    if let Some(at) = behind(b's', s, at) {
+        return of_s(s, at);
     }
-    of_cx(s, behind(b'x', s, behind(b'c', s, i)))
+    let at = behind(b'c', s, at)?;
+    let at = behind(b'x', s, at)?;
+    of_cx(s, at)
 }
 
 pub(crate) fn gate(
@@ -90,15 +72,13 @@ pub(crate) fn gate(
     z: &mut [u64],
     p: &mut [u64],
     out: &mut [u8],
-    r: Put,
-) -> Put
-    ensures { Says (gated n (mem_of m x.old z.old p.old) (drop at s.now)) out.old r out.new result }
+    to: usize,
+) -> Option<usize>
+    ensures { Says (gated n (mem_of m x.old z.old p.old) (drop at s.now)) out.old to out.new result }
 {
-    let g = read_gate(s, at);
-    if !(g.ok & (g.at == s.len())) {
-        return say::bad(out, r);
-    }
-    let by = g.gate;
+    let Some(by) = read::last(s, read_gate(s, at)) else {
+        return say::bad(out, to);
+    };
     let a = clifford::conj_clifford(n, m, x, z, p, by);
-    say::changed(out, r, a, x, z, p)
+    say::changed(out, to, a, x, z, p)
 }

@@ -1,33 +1,12 @@
 // The log file of a reduction. The line's set is read a second time, into the rows that are reduced: the rows that the file starts from
 // stay as they came.
-ghost use Rattle.std.specs.Prelude.{◌≤◌, length};
+ghost use Rattle.std.specs.Prelude.{◌≤◌};
 
-use crate::{FILE, LIST, LOG, PHASES, WORDS};
-use forms::read::Lists;
+use crate::drafts::Drafts;
+use crate::{FILE, LOG, PHASES, WORDS};
+use encoding::RowSet;
 use forms::{read, say};
-use terms::Canonicalized;
-use text::Put;
-
-fn filed(
-    n: usize,
-    m: usize,
-    x: &[u64],
-    z: &[u64],
-    p: &[u64],
-    order: &[u16],
-    listed: &[u16],
-    extra: &[u16],
-    log: &[u16],
-    cx: &[u64],
-    cz: &[u64],
-    cp: &[u64],
-    b: &mut [u8],
-    out: &mut [u8],
-    r: Put,
-) -> Put {
-    let a = pwl::write(n, m, x, z, p, order, listed, extra, log, cx, cz, cp, b);
-    say::filed(out, r, a, b)
-}
+use terms::Lists;
 
 // The units of so many entries.
 fn units(entries: usize, most: usize) -> usize
@@ -41,57 +20,25 @@ fn units(entries: usize, most: usize) -> usize
 
 // A reduction that is not finished has no file: the answer is that of `reduce`.
 fn reduced(
-    n: usize,
-    m: usize,
-    x: &[u64],
-    z: &[u64],
-    p: &[u64],
-    order: &[u16],
-    listed: &[u16],
-    extra: &[u16],
+    set: &RowSet<'_>,
+    lists: &Lists<'_>,
     log: &mut [u16],
     cx: &mut [u64],
     cz: &mut [u64],
     cp: &mut [u64],
     b: &mut [u8],
     out: &mut [u8],
-    r: Put,
-) -> Put {
-    let a = terms::canonicalize(n, m, cx, cz, cp, order, listed, extra, log);
-    match a {
-        Canonicalized::Done { entries, t: _ } => finished(
-            n, m, x, z, p, order, listed, extra, entries, log, cx, cz, cp, b, out, r,
-        ),
-        Canonicalized::Full(capacity) => say::reduced(
-            out,
-            r,
-            Canonicalized::Full(capacity),
-            log,
-            cx,
-            cz,
-            cp,
-        ),
-        Canonicalized::Refused(k) => say::reduced(
-            out,
-            r,
-            Canonicalized::Refused(k),
-            log,
-            cx,
-            cz,
-            cp,
-        ),
+    to: usize,
+) -> Option<usize> {
+    match terms::canonicalize(set.n, set.m, cx, cz, cp, lists, log) {
+        Ok(done) => finished(set, lists, done.entries, log, cx, cz, cp, b, out, to),
+        stopped => say::reduced(out, to, stopped, log, cx, cz, cp),
     }
 }
 
 fn finished(
-    n: usize,
-    m: usize,
-    x: &[u64],
-    z: &[u64],
-    p: &[u64],
-    order: &[u16],
-    listed: &[u16],
-    extra: &[u16],
+    set: &RowSet<'_>,
+    lists: &Lists<'_>,
     entries: usize,
     log: &[u16],
     cx: &[u64],
@@ -99,209 +46,71 @@ fn finished(
     cp: &[u64],
     b: &mut [u8],
     out: &mut [u8],
-    r: Put,
-) -> Put {
+    to: usize,
+) -> Option<usize> {
     let e = units(entries, log.len());
-    filed(
-        n,
-        m,
-        x,
-        z,
-        p,
-        order,
-        listed,
-        extra,
+    let a = pwl::write(
+        set.n,
+        set.m,
+        set.x,
+        set.z,
+        set.phases,
+        lists,
         &log[0..e],
         cx,
         cz,
         cp,
         b,
-        out,
-        r,
-    )
-}
-
-// On the parts that the line filled.
-fn lent(
-    n: usize,
-    m: usize,
-    x: &[u64],
-    z: &[u64],
-    p: &[u64],
-    cx: &mut [u64],
-    cz: &mut [u64],
-    cp: &mut [u64],
-    l: Lists,
-    order: &[u16],
-    listed: &[u16],
-    extra: &[u16],
-    u: u64,
-    log: &mut [u16],
-    b: &mut [u8],
-    out: &mut [u8],
-    r: Put,
-) -> Put
-    requires order_in_bounds { (l.order ≤ length order.now) × (l.listed ≤ length listed.now) × (l.extra ≤ length extra.now) }
-    requires u_in_bounds { u ≤ length log.old }
-{
-    let d = l.order;
-    let e = l.listed;
-    let f = l.extra;
-    let g = u as usize;
-    reduced(
-        n,
-        m,
-        x,
-        z,
-        p,
-        &order[0..d],
-        &listed[0..e],
-        &extra[0..f],
-        &mut log[0..g],
-        cx,
-        cz,
-        cp,
-        b,
-        out,
-        r,
-    )
-}
-
-fn ordered(
-    s: &[u8],
-    at: usize,
-    n: usize,
-    m: usize,
-    x: &[u64],
-    z: &[u64],
-    p: &[u64],
-    cx: &mut [u64],
-    cz: &mut [u64],
-    cp: &mut [u64],
-    order: &mut [u16; LIST],
-    listed: &mut [u16; LIST],
-    extra: &mut [u16; LIST],
-    log: &mut [u16; LOG],
-    b: &mut [u8; FILE],
-    out: &mut [u8],
-    r: Put,
-) -> Put {
-    let l = read::read_lists(s, at, order, listed, extra);
-    let u = text::number_field(s, l.at, LOG as u64);
-    if !(l.ok & (u.ok & (u.at == s.len()))) {
-        return say::bad(out, r);
-    }
-    lent(
-        n, m, x, z, p, cx, cz, cp, l, order, listed, extra, u.value, log, b, out, r,
-    )
+    );
+    say::filed(out, to, a, b)
 }
 
 // The lists, the log and the file are made for the line.
 fn on_rows(
     s: &[u8],
     at: usize,
-    n: usize,
-    m: usize,
-    x: &[u64],
-    z: &[u64],
-    p: &[u64],
+    set: &RowSet<'_>,
     cx: &mut [u64],
     cz: &mut [u64],
     cp: &mut [u64],
     out: &mut [u8],
-    r: Put,
-) -> Put {
-    let mut order = [0u16; LIST];
-    let mut listed = [0u16; LIST];
-    let mut extra = [0u16; LIST];
+    to: usize,
+) -> Option<usize> {
+    let mut drafts = Drafts::new();
     let mut log = [0u16; LOG];
     let mut b = [0u8; FILE];
-    ordered(
-        s,
-        at,
-        n,
-        m,
-        x,
-        z,
-        p,
-        cx,
-        cz,
-        cp,
-        &mut order,
-        &mut listed,
-        &mut extra,
-        &mut log,
-        &mut b,
-        out,
-        r,
-    )
+    let Some((lists, log)) = drafts.read_asked(s, at, &mut log) else {
+        return say::bad(out, to);
+    };
+    reduced(set, &lists, log, cx, cz, cp, &mut b, out, to)
 }
 
-fn read_again(
-    s: &[u8],
-    end: usize,
-    x: &[u64],
-    z: &[u64],
-    p: &[u64],
-    cx: &mut [u64],
-    cz: &mut [u64],
-    cp: &mut [u64],
-    out: &mut [u8],
-    r: Put,
-) -> Put {
-    let q = read::read_rows(s, end, cx, cz, cp);
-    if !q.ok {
-        return say::bad(out, r);
-    }
-    let i = q.x;
-    let j = q.z;
-    let k = q.p;
-    on_rows(
-        s,
-        q.at,
-        q.n,
-        q.m,
-        x,
-        z,
-        p,
-        &mut cx[0..i],
-        &mut cz[0..j],
-        &mut cp[0..k],
-        out,
-        r,
-    )
-}
-
-fn reread(s: &[u8], end: usize, x: &[u64], z: &[u64], p: &[u64], out: &mut [u8], r: Put) -> Put {
+// Into the rows that are reduced.
+fn reread(s: &[u8], end: usize, set: &RowSet<'_>, out: &mut [u8], to: usize) -> Option<usize> {
     let mut cx = [0u64; WORDS];
     let mut cz = [0u64; WORDS];
     let mut cp = [0u64; PHASES];
-    read_again(s, end, x, z, p, &mut cx, &mut cz, &mut cp, out, r)
-}
-
-fn first_read(
-    s: &[u8],
-    end: usize,
-    x: &mut [u64],
-    z: &mut [u64],
-    p: &mut [u64],
-    out: &mut [u8],
-    r: Put,
-) -> Put {
-    let q = read::read_rows(s, end, x, z, p);
-    if !q.ok {
-        return say::bad(out, r);
-    }
-    let i = q.x;
-    let j = q.z;
-    let k = q.p;
-    reread(s, end, &x[0..i], &z[0..j], &p[0..k], out, r)
+    let Some((q, at)) = read::read_rows(s, end, &mut cx, &mut cz, &mut cp) else {
+        return say::bad(out, to);
+    };
+    let (cx, cz, cp) = (&mut cx[0..q.x], &mut cz[0..q.z], &mut cp[0..q.p]);
+    on_rows(s, at, set, cx, cz, cp, out, to)
 }
 
 // The set's fields start at `end`.
-pub(crate) fn file(s: &[u8], end: usize, out: &mut [u8], r: Put) -> Put {
+pub(crate) fn file(s: &[u8], end: usize, out: &mut [u8], to: usize) -> Option<usize> {
     let mut x = [0u64; WORDS];
     let mut z = [0u64; WORDS];
     let mut p = [0u64; PHASES];
-    first_read(s, end, &mut x, &mut z, &mut p, out, r)
+    let Some((q, _)) = read::read_rows(s, end, &mut x, &mut z, &mut p) else {
+        return say::bad(out, to);
+    };
+    let set = RowSet {
+        n: q.n,
+        m: q.m,
+        x: &x[0..q.x],
+        z: &z[0..q.z],
+        phases: &p[0..q.p],
+    };
+    reread(s, end, &set, out, to)
 }

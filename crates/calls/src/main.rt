@@ -3,6 +3,7 @@
 #![tactic(auto)]
 
 mod conjugate;
+mod drafts;
 mod elements;
 mod feed;
 mod files;
@@ -14,6 +15,7 @@ mod sets;
 mod texts;
 mod words;
 
+use elements::Terms;
 use encoding::{MAX_QUBITS, MAX_ROWS};
 use mat_elem::states::MAX_VECTORS;
 
@@ -51,13 +53,13 @@ pub(crate) const ANSWER: usize = 900000;
 fn main(rt: HostRuntime) {
     let mut buf = [0u8; LINE];
     let mut out = [0u8; ANSWER];
-    let mut tx = [0u64; TERMS];
-    let mut tz = [0u64; TERMS];
-    let mut re = [0i32; TERMS];
-    let mut im = [0i32; TERMS];
-    let mut fre = [0.0f64; TERMS];
-    let mut fim = [0.0f64; TERMS];
-    feed::run(
-        &rt, &mut buf, &mut out, &mut tx, &mut tz, &mut re, &mut im, &mut fre, &mut fim,
-    );
+    let mut terms = Terms {
+        x: [0u64; TERMS],
+        z: [0u64; TERMS],
+        re: [0i32; TERMS],
+        im: [0i32; TERMS],
+        fre: [0.0f64; TERMS],
+        fim: [0.0f64; TERMS],
+    };
+    feed::run(&rt, &mut buf, &mut out, &mut terms);
 }

@@ -1,110 +1,83 @@
 // The calls on the rows of one set: what stands behind it in the line is read, the call is made, and its answer written. The parts of the set are lent (`sets`).
-ghost use Rattle.encoding.specs.Set.{mem_of};
+ghost use Rattle.encoding.specs.Set.{mem_of, set_of};
 ghost use Rattle.std.specs.Prelude.{length, drop};
 ghost use Rattle.forms.specs.Answers.{Says};
 ghost use Rattle.calls.specs.Answer.{of_two, of_one, two as twoAnswer, one' as oneAnswer, imul as imulAnswer, set as setAnswer, acted_on, act_in, compared, matrix_in};
 ghost use Rattle.calls.specs.Limits.{most_words};
 
 use crate::WORDS;
+use encoding::RowSet;
 use forms::{read, say};
 use naming::{OfOne, OfTwo};
 use pauli::{PauliMatrix, QubitNumber, RowNumber};
-use text::{Put, number_field};
 
 // Of two rows, or of a row and a qubit.
 fn asked_two(
     c: OfTwo,
-    n: usize,
-    m: usize,
-    x: &[u64],
-    z: &[u64],
-    p: &[u64],
+    set: &RowSet<'_>,
     a: usize,
     b: usize,
     out: &mut [u8],
-    r: Put,
-) -> Put
-    ensures { Says (of_two c n (mem_of m x.now z.now p.now) a b) out.old r out.new result }
+    to: usize,
+) -> Option<usize>
+    ensures { Says (of_two c set.now.n (set_of set.now) a b) out.old to out.new result }
 {
     match c {
         OfTwo::Get => {
-            let v = cmpnt_list::get_qubit(n, m, x, z, p, RowNumber(a), QubitNumber(b));
-            say::got(out, r, v)
+            let v = cmpnt_list::get_qubit(set, RowNumber(a), QubitNumber(b));
+            say::got(out, to, v)
         }
         OfTwo::Phase => {
-            let v = cmpnt_list::phase_of_mul(n, m, x, z, p, RowNumber(a), RowNumber(b));
-            say::phase(out, r, v)
+            let v = cmpnt_list::phase_of_mul(set, RowNumber(a), RowNumber(b));
+            say::phase(out, to, v)
         }
         OfTwo::Table => {
-            let v = cmpnt_list::phase_of_mul_by_table(n, m, x, z, p, RowNumber(a), RowNumber(b));
-            say::phase(out, r, v)
+            let v = cmpnt_list::phase_of_mul_by_table(set, RowNumber(a), RowNumber(b));
+            say::phase(out, to, v)
         }
         OfTwo::Comm => {
-            let v = cmpnt_list::commutes_with(n, m, x, z, p, RowNumber(a), RowNumber(b));
-            say::truth(out, r, v)
+            let v = cmpnt_list::commutes_with(set, RowNumber(a), RowNumber(b));
+            say::truth(out, to, v)
         }
     }
 }
 
+#[tactic(auto, using(crate::proofs::Said::good_told), unfolding(crate::specs::Answer::two))]
 pub(crate) fn two(
     c: OfTwo,
     s: &[u8],
     at: usize,
-    n: usize,
-    m: usize,
-    x: &[u64],
-    z: &[u64],
-    p: &[u64],
+    set: &RowSet<'_>,
     out: &mut [u8],
-    r: Put,
-) -> Put
-    ensures { Says (twoAnswer c n (mem_of m x.now z.now p.now) (drop at s.now)) out.old r out.new result }
+    to: usize,
+) -> Option<usize>
+    ensures { Says (twoAnswer c set.now.n (set_of set.now) (drop at s.now)) out.old to out.new result }
 {
-    let q = read::read_two(s, at);
-    if !(q.ok & (q.at == s.len())) {
-        return say::bad(out, r);
-    }
-    asked_two(c, n, m, x, z, p, q.a, q.b, out, r)
+    let Some(q) = read::last(s, read::read_two(s, at)) else {
+        return say::bad(out, to);
+    };
+    asked_two(c, set, q.a, q.b, out, to)
 }
 
 // The four counts of a row.
-fn counted(
-    n: usize,
-    m: usize,
-    x: &[u64],
-    z: &[u64],
-    p: &[u64],
-    row: usize,
-    out: &mut [u8],
-    r: Put,
-) -> Put
-    ensures { Says (of_one OfOne.Count n (mem_of m x.now z.now p.now) row) out.old r out.new result }
+fn counted(set: &RowSet<'_>, row: usize, out: &mut [u8], to: usize) -> Option<usize>
+    ensures { Says (of_one OfOne.Count set.now.n (set_of set.now) row) out.old to out.new result }
 {
-    let ni = cmpnt_list::count(n, m, x, z, p, RowNumber(row), PauliMatrix::I);
-    let nx = cmpnt_list::count(n, m, x, z, p, RowNumber(row), PauliMatrix::X);
-    let ny = cmpnt_list::count(n, m, x, z, p, RowNumber(row), PauliMatrix::Y);
-    let nz = cmpnt_list::count(n, m, x, z, p, RowNumber(row), PauliMatrix::Z);
-    say::counts(out, r, ni, nx, ny, nz)
+    let ni = cmpnt_list::count(set, RowNumber(row), PauliMatrix::I);
+    let nx = cmpnt_list::count(set, RowNumber(row), PauliMatrix::X);
+    let ny = cmpnt_list::count(set, RowNumber(row), PauliMatrix::Y);
+    let nz = cmpnt_list::count(set, RowNumber(row), PauliMatrix::Z);
+    say::counts(out, to, ni, nx, ny, nz)
 }
 
-fn asked_one(
-    c: OfOne,
-    n: usize,
-    m: usize,
-    x: &[u64],
-    z: &[u64],
-    p: &[u64],
-    row: usize,
-    out: &mut [u8],
-    r: Put,
-) -> Put
-    ensures { Says (of_one c n (mem_of m x.now z.now p.now) row) out.old r out.new result }
+fn asked_one(c: OfOne, set: &RowSet<'_>, row: usize, out: &mut [u8], to: usize) -> Option<usize>
+    ensures { Says (of_one c set.now.n (set_of set.now) row) out.old to out.new result }
 {
     match c {
-        OfOne::Count => counted(n, m, x, z, p, row, out, r),
+        OfOne::Count => counted(set, row, out, to),
         OfOne::Central => {
-            let a = cmpnt_list::belongs_to_centralizer(n, m, x, z, p, RowNumber(row));
-            say::truth(out, r, a)
+            let a = cmpnt_list::belongs_to_centralizer(set, RowNumber(row));
+            say::truth(out, to, a)
         }
     }
 }
@@ -113,21 +86,16 @@ pub(crate) fn one(
     c: OfOne,
     s: &[u8],
     at: usize,
-    n: usize,
-    m: usize,
-    x: &[u64],
-    z: &[u64],
-    p: &[u64],
+    set: &RowSet<'_>,
     out: &mut [u8],
-    r: Put,
-) -> Put
-    ensures { Says (oneAnswer c n (mem_of m x.now z.now p.now) (drop at s.now)) out.old r out.new result }
+    to: usize,
+) -> Option<usize>
+    ensures { Says (oneAnswer c set.now.n (set_of set.now) (drop at s.now)) out.old to out.new result }
 {
-    let q = number_field(s, at, u64::MAX);
-    if !(q.ok & (q.at == s.len())) {
-        return say::bad(out, r);
-    }
-    asked_one(c, n, m, x, z, p, q.value as usize, out, r)
+    let Some(row) = read::last(s, read::number(s, at, usize::MAX)) else {
+        return say::bad(out, to);
+    };
+    asked_one(c, set, row, out, to)
 }
 
 // ---- what is lent to be changed
@@ -141,16 +109,15 @@ pub(crate) fn imul(
     z: &mut [u64],
     p: &mut [u64],
     out: &mut [u8],
-    r: Put,
-) -> Put
-    ensures { Says (imulAnswer n (mem_of m x.old z.old p.old) (drop at s.now)) out.old r out.new result }
+    to: usize,
+) -> Option<usize>
+    ensures { Says (imulAnswer n (mem_of m x.old z.old p.old) (drop at s.now)) out.old to out.new result }
 {
-    let q = read::read_two(s, at);
-    if !(q.ok & (q.at == s.len())) {
-        return say::bad(out, r);
-    }
+    let Some(q) = read::last(s, read::read_two(s, at)) else {
+        return say::bad(out, to);
+    };
     let c = terms::imul(n, m, x, z, p, RowNumber(q.a), RowNumber(q.b));
-    say::product(out, r, c, x, z, p)
+    say::product(out, to, c, x, z, p)
 }
 
 pub(crate) fn set(
@@ -162,132 +129,67 @@ pub(crate) fn set(
     z: &mut [u64],
     p: &[u64],
     out: &mut [u8],
-    r: Put,
-) -> Put
-    ensures { Says (setAnswer n (mem_of m x.old z.old p.now) (drop at s.now)) out.old r out.new result }
+    to: usize,
+) -> Option<usize>
+    ensures { Says (setAnswer n (mem_of m x.old z.old p.now) (drop at s.now)) out.old to out.new result }
 {
-    let q = read::read_two(s, at);
-    let l = read::read_letter(s, q.at);
-    if !((q.ok & l.ok) & (l.at == s.len())) {
-        return say::bad(out, r);
-    }
-    let to = l.pauli;
-    let a = cmpnt_list::set_qubit(n, m, x, z, p, RowNumber(q.a), QubitNumber(q.b), to);
-    say::changed(out, r, a, x, z, p)
+    let Some((q, at)) = read::read_two(s, at) else {
+        return say::bad(out, to);
+    };
+    let Some(pauli) = read::last(s, read::read_letter(s, at)) else {
+        return say::bad(out, to);
+    };
+    let a = cmpnt_list::set_qubit(n, m, x, z, p, RowNumber(q.a), QubitNumber(q.b), pauli);
+    say::changed(out, to, a, x, z, p)
 }
 
 // ---- the words of a state and of a matrix are few, and made for the line that has them
 
 fn on_state(
-    n: usize,
-    m: usize,
-    x: &[u64],
-    z: &[u64],
-    p: &[u64],
+    set: &RowSet<'_>,
     row: usize,
     state: &mut [u64],
     out: &mut [u8],
-    r: Put,
-) -> Put
-    ensures { Says (acted_on n (mem_of m x.now z.now p.now) row state.old) out.old r out.new result }
+    to: usize,
+) -> Option<usize>
+    ensures { Says (acted_on set.now.n (set_of set.now) row state.old) out.old to out.new result }
 {
-    let a = cmpnt_list::imul_state(n, m, x, z, p, RowNumber(row), state);
-    say::acted(out, r, a, state)
+    let a = cmpnt_list::imul_state(set, RowNumber(row), state);
+    say::acted(out, to, a, state)
 }
 
-fn acted(
-    s: &[u8],
-    at: usize,
-    n: usize,
-    m: usize,
-    x: &[u64],
-    z: &[u64],
-    p: &[u64],
-    state: &mut [u64],
-    out: &mut [u8],
-    r: Put,
-) -> Put
-    ensures { Says (act_in (length state.old) n (mem_of m x.now z.now p.now) (drop at s.now))
-        out.old r out.new result }
-{
-    let q = number_field(s, at, u64::MAX);
-    let l = text::words_field(s, q.at, state);
-    if !((q.ok & l.ok) & (l.at == s.len())) {
-        return say::bad(out, r);
-    }
-    let w = l.count;
-    on_state(n, m, x, z, p, q.value as usize, &mut state[0..w], out, r)
-}
-
-pub(crate) fn act(
-    s: &[u8],
-    at: usize,
-    n: usize,
-    m: usize,
-    x: &[u64],
-    z: &[u64],
-    p: &[u64],
-    out: &mut [u8],
-    r: Put,
-) -> Put
-    ensures { Says (act_in most_words n (mem_of m x.now z.now p.now) (drop at s.now)) out.old r out.new result }
+pub(crate) fn act(s: &[u8], at: usize, set: &RowSet<'_>, out: &mut [u8], to: usize) -> Option<usize>
+    ensures { Says (act_in most_words set.now.n (set_of set.now) (drop at s.now)) out.old to out.new result }
 {
     let mut state = [0u64; WORDS];
-    acted(s, at, n, m, x, z, p, &mut state, out, r)
+    let Some((row, at)) = read::number(s, at, usize::MAX) else {
+        return say::bad(out, to);
+    };
+    let Some(w) = read::last(s, read::words(s, at, &mut state)) else {
+        return say::bad(out, to);
+    };
+    on_state(set, row, &mut state[0..w], out, to)
 }
 
-fn into_matrix(
-    n: usize,
-    m: usize,
-    x: &[u64],
-    z: &[u64],
-    p: &[u64],
-    v: &mut [u64],
-    out: &mut [u8],
-    r: Put,
-) -> Put
-    ensures { Says (compared n (mem_of m x.now z.now p.now) (length v.old)) out.old r out.new result }
+fn into_matrix(set: &RowSet<'_>, v: &mut [u64], out: &mut [u8], to: usize) -> Option<usize>
+    ensures { Says (compared set.now.n (set_of set.now) (length v.old)) out.old to out.new result }
 {
-    let a = cmpnt_list::compatibility_matrix(n, m, x, z, p, v);
-    say::matrix(out, r, a, v)
-}
-
-fn compare(
-    s: &[u8],
-    at: usize,
-    n: usize,
-    m: usize,
-    x: &[u64],
-    z: &[u64],
-    p: &[u64],
-    v: &mut [u64],
-    out: &mut [u8],
-    r: Put,
-) -> Put
-    ensures { Says (matrix_in (length v.old) n (mem_of m x.now z.now p.now) (drop at s.now))
-        out.old r out.new result }
-{
-    let q = number_field(s, at, v.len() as u64);
-    if !(q.ok & (q.at == s.len())) {
-        return say::bad(out, r);
-    }
-    let w = q.value as usize;
-    into_matrix(n, m, x, z, p, &mut v[0..w], out, r)
+    let a = cmpnt_list::compatibility_matrix(set, v);
+    say::matrix(out, to, a, v)
 }
 
 pub(crate) fn matrix(
     s: &[u8],
     at: usize,
-    n: usize,
-    m: usize,
-    x: &[u64],
-    z: &[u64],
-    p: &[u64],
+    set: &RowSet<'_>,
     out: &mut [u8],
-    r: Put,
-) -> Put
-    ensures { Says (matrix_in most_words n (mem_of m x.now z.now p.now) (drop at s.now)) out.old r out.new result }
+    to: usize,
+) -> Option<usize>
+    ensures { Says (matrix_in most_words set.now.n (set_of set.now) (drop at s.now)) out.old to out.new result }
 {
     let mut v = [0u64; WORDS];
-    compare(s, at, n, m, x, z, p, &mut v, out, r)
+    let Some(w) = read::last(s, read::number(s, at, WORDS)) else {
+        return say::bad(out, to);
+    };
+    into_matrix(set, &mut v[0..w], out, to)
 }

@@ -1,34 +1,30 @@
 // The calls on a set. Its fields are read and its parts lent here, for all of them: what a call has besides stands behind.
-ghost use Rattle.encoding.specs.Set.{mem_of};
-ghost use Rattle.std.specs.Prelude.{length, drop};
+ghost use Rattle.encoding.specs.Set.{mem_of, set_of};
+ghost use Rattle.std.specs.Prelude.{drop};
 ghost use Rattle.forms.specs.Answers.{Says};
-ghost use Rattle.calls.specs.Answer.{lends, changes, on_set, with_set, by_set, Answers};
+ghost use Rattle.calls.specs.Answer.{lends, changes, on_set, by_set, Answers};
 
 use crate::{PHASES, WORDS, conjugate, pairwise, reducing, rows, texts};
+use encoding::RowSet;
 use forms::{read, say};
 use naming::{Changes, Lends, OnSet, Reduces};
-use text::Put;
 
 // Calls that read it and write elsewhere. The set ends at `at`.
 fn lending(
     c: Lends,
     s: &[u8],
     at: usize,
-    n: usize,
-    m: usize,
-    x: &[u64],
-    z: &[u64],
-    p: &[u64],
+    set: &RowSet<'_>,
     out: &mut [u8],
-    r: Put,
-) -> Put
-    ensures { Answers (lends c n (mem_of m x.now z.now p.now) (drop at s.now)) out.old r out.new result }
+    to: usize,
+) -> Option<usize>
+    ensures { Answers (lends c set.now.n (set_of set.now) (drop at s.now)) out.old to out.new result }
 {
     match c {
-        Lends::Act => rows::act(s, at, n, m, x, z, p, out, r),
-        Lends::Matrix => rows::matrix(s, at, n, m, x, z, p, out, r),
-        Lends::Write => texts::write(s, at, n, m, x, z, p, out, r),
-        Lends::Pair => pairwise::pair(s, at, n, m, x, z, p, out, r),
+        Lends::Act => rows::act(s, at, set, out, to),
+        Lends::Matrix => rows::matrix(s, at, set, out, to),
+        Lends::Write => texts::write(s, at, set, out, to),
+        Lends::Pair => pairwise::pair(s, at, set, out, to),
     }
 }
 
@@ -43,16 +39,16 @@ fn changing(
     z: &mut [u64],
     p: &mut [u64],
     out: &mut [u8],
-    r: Put,
-) -> Put
-    ensures { Says (changes c n (mem_of m x.old z.old p.old) (drop at s.now)) out.old r out.new result }
+    to: usize,
+) -> Option<usize>
+    ensures { Says (changes c n (mem_of m x.old z.old p.old) (drop at s.now)) out.old to out.new result }
 {
     match c {
-        Changes::Imul => rows::imul(s, at, n, m, x, z, p, out, r),
-        Changes::Set => rows::set(s, at, n, m, x, z, p, out, r),
-        Changes::Gate => conjugate::gate(s, at, n, m, x, z, p, out, r),
-        Changes::Read => texts::read_text(s, at, n, m, x, z, p, out, r),
-        Changes::Readx => texts::read_bytes(s, at, n, m, x, z, p, out, r),
+        Changes::Imul => rows::imul(s, at, n, m, x, z, p, out, to),
+        Changes::Set => rows::set(s, at, n, m, x, z, p, out, to),
+        Changes::Gate => conjugate::gate(s, at, n, m, x, z, p, out, to),
+        Changes::Read => texts::read_text(s, at, n, m, x, z, p, out, to),
+        Changes::Readx => texts::read_bytes(s, at, n, m, x, z, p, out, to),
     }
 }
 
@@ -67,13 +63,13 @@ fn reductions(
     z: &mut [u64],
     p: &mut [u64],
     out: &mut [u8],
-    r: Put,
-) -> Put {
+    to: usize,
+) -> Option<usize> {
     match c {
-        Reduces::Reduce => reducing::reduce(s, at, n, m, x, z, p, out, r),
-        Reduces::All => reducing::reduce_all(s, at, n, m, x, z, p, out, r),
-        Reduces::Check => reducing::check(s, at, n, m, x, z, p, out, r),
-        Reduces::Undo => reducing::undo(s, at, n, m, x, z, p, out, r),
+        Reduces::Reduce => reducing::reduce(s, at, n, m, x, z, p, out, to),
+        Reduces::All => reducing::reduce_all(s, at, n, m, x, z, p, out, to),
+        Reduces::Check => reducing::check(s, at, n, m, x, z, p, out, to),
+        Reduces::Undo => reducing::undo(s, at, n, m, x, z, p, out, to),
     }
 }
 
@@ -85,62 +81,31 @@ fn called(
     m: usize,
     x: &mut [u64],
     z: &mut [u64],
-    p: &mut [u64],
+    phases: &mut [u64],
     out: &mut [u8],
-    r: Put,
-) -> Put
-    ensures { Answers (on_set c n (mem_of m x.old z.old p.old) (drop at s.now)) out.old r out.new result }
+    to: usize,
+) -> Option<usize>
+    ensures { Answers (on_set c n (mem_of m x.old z.old phases.old) (drop at s.now)) out.old to out.new result }
 {
     match c {
-        OnSet::Two(k) => rows::two(k, s, at, n, m, x, z, p, out, r),
-        OnSet::One(k) => rows::one(k, s, at, n, m, x, z, p, out, r),
-        OnSet::Lent(k) => lending(k, s, at, n, m, x, z, p, out, r),
-        OnSet::Changed(k) => changing(k, s, at, n, m, x, z, p, out, r),
-        OnSet::Reduced(k) => reductions(k, s, at, n, m, x, z, p, out, r),
+        OnSet::Two(k) => rows::two(k, s, at, &RowSet { n, m, x, z, phases }, out, to),
+        OnSet::One(k) => rows::one(k, s, at, &RowSet { n, m, x, z, phases }, out, to),
+        OnSet::Lent(k) => lending(k, s, at, &RowSet { n, m, x, z, phases }, out, to),
+        OnSet::Changed(k) => changing(k, s, at, n, m, x, z, phases, out, to),
+        OnSet::Reduced(k) => reductions(k, s, at, n, m, x, z, phases, out, to),
     }
-}
-
-// On the parts that the line filled.
-fn filled(
-    c: OnSet,
-    s: &[u8],
-    end: usize,
-    x: &mut [u64],
-    z: &mut [u64],
-    p: &mut [u64],
-    out: &mut [u8],
-    r: Put,
-) -> Put
-    ensures { Answers (with_set (length x.old) (length z.old) (length p.old) c (drop end s.now))
-        out.old r out.new result }
-{
-    let q = read::read_rows(s, end, x, z, p);
-    if !q.ok {
-        return say::bad(out, r);
-    }
-    let i = q.x;
-    let j = q.z;
-    let k = q.p;
-    called(
-        c,
-        s,
-        q.at,
-        q.n,
-        q.m,
-        &mut x[0..i],
-        &mut z[0..j],
-        &mut p[0..k],
-        out,
-        r,
-    )
 }
 
 // The answer to a line that names a call on a set.
-pub(crate) fn answer(c: OnSet, s: &[u8], end: usize, out: &mut [u8], r: Put) -> Put
-    ensures { Answers (by_set c (drop end s.now)) out.old r out.new result }
+pub(crate) fn answer(c: OnSet, s: &[u8], end: usize, out: &mut [u8], to: usize) -> Option<usize>
+    ensures { Answers (by_set c (drop end s.now)) out.old to out.new result }
 {
     let mut x = [0u64; WORDS];
     let mut z = [0u64; WORDS];
     let mut p = [0u64; PHASES];
-    filled(c, s, end, &mut x, &mut z, &mut p, out, r)
+    let Some((q, at)) = read::read_rows(s, end, &mut x, &mut z, &mut p) else {
+        return say::bad(out, to);
+    };
+    let (x, z, p) = (&mut x[0..q.x], &mut z[0..q.z], &mut p[0..q.p]);
+    called(c, s, at, q.n, q.m, x, z, p, out, to)
 }

@@ -6,7 +6,7 @@ use Rattle.pauli.specs.Row.{pad_mul, mul_row, bit_of}
 use Rattle.pauli.specs.Rows.{commute, holding, count_of}
 use Rattle.encoding.specs.Words.{word, unpack, bits, unbits, join, pack, lay_rows}
 use Rattle.encoding.specs.Set.{word_in, exponent_at, lay_exponents, rows_held, list, lay_in}
-use Rattle.encoding.specs.Refusals.{some, some_below, bad_bits, bad_phases}
+use Rattle.encoding.specs.Refusals.{some, some_below, bad_bits, bad_phases, answer_or}
 use Rattle.cmpnt_list.specs.Calls.{count_in, commutes_with}
 use Rattle.reduction.specs.Lists.{has, distinct}
 use Rattle.reduction.specs.Rule.{mul_at, multiply, counted, first, clear, pivot, column_by, column, columns, reduce}
@@ -22,7 +22,7 @@ use Rattle.mat_elem.specs.float.Sums.{overflows}
 use Rattle.cases.specs.Table.{Table}
 
 pub p1-to-p12 : Table
-unfolding pad_mul mul_row bit_of commute holding count_of word unpack bits unbits join pack lay_rows word_in exponent_at lay_exponents rows_held list lay_in by_rank place_in placed joined some some_below bad_bits bad_phases count_in commutes_with has distinct mul_at multiply counted first clear pivot column_by column columns reduce replay units logged capped falls_after sum_over whole.element_of float.element_of overflows add neg
+unfolding answer_or pad_mul mul_row bit_of commute holding count_of word unpack bits unbits join pack lay_rows word_in exponent_at lay_exponents rows_held list lay_in by_rank place_in placed joined some some_below bad_bits bad_phases count_in commutes_with has distinct mul_at multiply counted first clear pivot column_by column columns reduce replay units logged capped falls_after sum_over whole.element_of float.element_of overflows add neg
 p1-to-p12 =
     record {
       p1 = record { one-m = refl; answer = refl; rows = refl; numbers = refl };

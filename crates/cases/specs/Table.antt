@@ -1,24 +1,15 @@
 -- RULES 11, "Cases at each end": P1 to P12, rows with phases, and the ends of the floats. A row of the table is a call's own contract, or its
 -- definition, at what the case gives, with the outcome that RULES 11 says; so that the call accepts what it is given is part of the row. Assumes
 -- nothing.
-use Rattle.std.specs.Prelude.{◌≡◌, true, false, List, [], ◌∷◌, ℕ, pos, neg_ℤ, Float}
+use Rattle.std.specs.Prelude.{◌≡◌, true, false, List, [], ◌∷◌, ℕ, ℤ, pos, neg_ℤ, Float, Ok}
 use Rattle.std.specs.Float.{fin}
 use Rattle.pauli.specs.declared.PauliMatrix.TheVariants.{I}
 use Rattle.encoding.specs.Set.{Mem, mem_of}
-use Rattle.encoding.specs.declared.Answer.TheVariants.{Done}
 use Rattle.cmpnt_list.specs.Calls.{count_in, commutes_with, MulPairwise, ImulState}
-use Rattle.cmpnt_list.specs.declared.Tally.TheVariants.{Number}
-use Rattle.cmpnt_list.specs.declared.Truth.TheVariants.{Is}
-use Rattle.cmpnt_list.specs.declared.Phase.TheVariants.{Exponent}
-use Rattle.terms.specs.Calls.{Multiplies, Reduces, reduced_number}
-use Rattle.terms.specs.declared.Clashes.TheVariants as clashes
-use Rattle.terms.specs.declared.Canonicalized.TheVariants as reduced
+use Rattle.terms.specs.Calls.{Multiplies, Reduces, Done, LogFull, reduced_number}
+use Rattle.mat_elem.specs.Sums.{Element, Sum, NoBlock, Refused}
 use Rattle.mat_elem.specs.whole.Sums as whole
-use Rattle.mat_elem.specs.declared.whole.Element.{Element}
-use Rattle.mat_elem.specs.declared.whole.Element.TheVariants.{Sum, NoBlock}
 use Rattle.mat_elem.specs.float.Sums as float
-use Rattle.mat_elem.specs.declared.float.Element as answer
-use Rattle.mat_elem.specs.declared.float.Element.TheVariants as sum
 
 -- one row of one qubit with exponent p: I, X, Y, Z
 abbrev row_i : ℕ → Mem
@@ -44,7 +35,7 @@ abbrev listed : List ℕ
 listed = 0 ∷ 1 ∷ 2 ∷ []
 
 -- P11: two qubits; terms (x,z,c): (0,1,3), (1,1,2), (1,0,5), (2,0,7)
-abbrev four : ℕ → ℕ → Element
+abbrev four : ℕ → ℕ → Element ℤ
 four bra ket =
     whole.element_of 2 (0 ∷ 1 ∷ 1 ∷ 2 ∷ []) (1 ∷ 1 ∷ 0 ∷ 0 ∷ []) (pos 3 ∷ pos 2 ∷ pos 5 ∷ pos 7 ∷ []) (pos 0 ∷ pos 0 ∷ pos 0 ∷ pos 0 ∷ []) bra ket
 
@@ -62,36 +53,36 @@ abbrev largest : Float
 largest = fin false 9007199254740991 (pos 971)
 
 -- three terms I with real coefficients a, b, c, bra 0 and ket 0
-abbrev summed : Float → Float → Float → answer.Element
+abbrev summed : Float → Float → Float → Element Float
 summed a b c = float.element_of 1 (0 ∷ 0 ∷ 0 ∷ []) (0 ∷ 0 ∷ 0 ∷ []) (a ∷ b ∷ c ∷ []) (float.plus_zero ∷ float.plus_zero ∷ float.plus_zero ∷ []) 0 0
 
 pub record Table : Type 0 where
   -- P1 XY: Z, 1. P2 YX: Z, 3. P3 ZX: Y, 1; each pair clashes at its one qubit
-  pub p1 : MulPairwise 1 (row_x 0) (row_y 0) (row_i 0) (row_z 1) (9 ∷ []) (1 ∷ []) Done
-  pub p2 : MulPairwise 1 (row_y 0) (row_x 0) (row_i 0) (row_z 3) (9 ∷ []) (1 ∷ []) Done
-  pub p3 : MulPairwise 1 (row_z 0) (row_x 0) (row_i 0) (row_y 1) (9 ∷ []) (1 ∷ []) Done
+  pub p1 : MulPairwise 1 (row_x 0) (row_y 0) (row_i 0) (row_z 1) (9 ∷ []) (1 ∷ []) (Ok tt)
+  pub p2 : MulPairwise 1 (row_y 0) (row_x 0) (row_i 0) (row_z 3) (9 ∷ []) (1 ∷ []) (Ok tt)
+  pub p3 : MulPairwise 1 (row_z 0) (row_x 0) (row_i 0) (row_y 1) (9 ∷ []) (1 ∷ []) (Ok tt)
   -- 11.7 X of phase 3 times Y of phase 2: Z, 2. No qubits, phase 1 times phase 0: 1
-  pub signed : MulPairwise 1 (row_x 3) (row_y 2) (row_i 0) (row_z 2) (9 ∷ []) (1 ∷ []) Done
-  pub signed-none : MulPairwise 0 (mem_of 1 [] [] (1 ∷ [])) (mem_of 1 [] [] (0 ∷ [])) (mem_of 1 [] [] (9 ∷ [])) (mem_of 1 [] [] (1 ∷ [])) (9 ∷ []) (0 ∷ []) Done
+  pub signed : MulPairwise 1 (row_x 3) (row_y 2) (row_i 0) (row_z 2) (9 ∷ []) (1 ∷ []) (Ok tt)
+  pub signed-none : MulPairwise 0 (mem_of 1 [] [] (1 ∷ [])) (mem_of 1 [] [] (0 ∷ [])) (mem_of 1 [] [] (9 ∷ [])) (mem_of 1 [] [] (1 ∷ [])) (9 ∷ []) (0 ∷ []) (Ok tt)
   -- P4 Y on 1: state 0, 3. P5 Z on 1: state 1, 2
-  pub p4 : ImulState 1 (row_y 0) 0 (1 ∷ []) (0 ∷ []) (Exponent (record { 0 = 3 }))
-  pub p5 : ImulState 1 (row_z 0) 0 (1 ∷ []) (1 ∷ []) (Exponent (record { 0 = 2 }))
+  pub p4 : ImulState 1 (row_y 0) 0 (1 ∷ []) (0 ∷ []) (Ok (record { 0 = 3 }))
+  pub p5 : ImulState 1 (row_z 0) 0 (1 ∷ []) (1 ∷ []) (Ok (record { 0 = 2 }))
   -- P6 all I: n = 65, 64, 0
-  pub p6 : count_in 65 (mem_of 1 (0 ∷ 0 ∷ []) (0 ∷ 0 ∷ []) (0 ∷ [])) 0 I ≡ Number 65
-  pub p6-64 : count_in 64 (mem_of 1 (0 ∷ []) (0 ∷ []) (0 ∷ [])) 0 I ≡ Number 64
-  pub p6-0 : count_in 0 (mem_of 1 [] [] (0 ∷ [])) 0 I ≡ Number 0
+  pub p6 : count_in 65 (mem_of 1 (0 ∷ 0 ∷ []) (0 ∷ 0 ∷ []) (0 ∷ [])) 0 I ≡ Ok 65
+  pub p6-64 : count_in 64 (mem_of 1 (0 ∷ []) (0 ∷ []) (0 ∷ [])) 0 I ≡ Ok 64
+  pub p6-0 : count_in 0 (mem_of 1 [] [] (0 ∷ [])) 0 I ≡ Ok 0
   -- P7 XX against ZZ commutes, XI against ZZ does not
-  pub p7 : commutes_with 2 (mem_of 2 (3 ∷ 0 ∷ []) (0 ∷ 3 ∷ []) (0 ∷ [])) 0 1 ≡ Is true
-  pub p7-not : commutes_with 2 (mem_of 2 (1 ∷ 0 ∷ []) (0 ∷ 3 ∷ []) (0 ∷ [])) 0 1 ≡ Is false
+  pub p7 : commutes_with 2 (mem_of 2 (3 ∷ 0 ∷ []) (0 ∷ 3 ∷ []) (0 ∷ [])) 0 1 ≡ Ok true
+  pub p7-not : commutes_with 2 (mem_of 2 (1 ∷ 0 ∷ []) (0 ∷ 3 ∷ []) (0 ∷ [])) 0 1 ≡ Ok false
   -- P8 the row X0 with p = 3 times itself: I, p = 2, no clash
-  pub p8 : Multiplies 1 0 0 (row_x 3) (row_i 2) (clashes.Number 0)
+  pub p8 : Multiplies 1 0 0 (row_x 3) (row_i 2) (Ok 0)
   -- P9 a log of 14 units, its 7 entries, t = 3; the rows X0 p = 1, X1 p = 3, Z0 p = 0
   pub p9 : Reduces 2 order listed [] three (9 ∷ 9 ∷ 9 ∷ 9 ∷ 9 ∷ 9 ∷ 9 ∷ 9 ∷ 9 ∷ 9 ∷ 9 ∷ 9 ∷ 9 ∷ 9 ∷ [])
-      (mem_of 3 (1 ∷ 2 ∷ 0 ∷ []) (0 ∷ 0 ∷ 1 ∷ []) (13 ∷ [])) (0 ∷ 1 ∷ 1 ∷ 0 ∷ 2 ∷ 0 ∷ 1 ∷ 2 ∷ 0 ∷ 1 ∷ 2 ∷ 1 ∷ 1 ∷ 2 ∷ []) (reduced.Done 7 3)
+      (mem_of 3 (1 ∷ 2 ∷ 0 ∷ []) (0 ∷ 0 ∷ 1 ∷ []) (13 ∷ [])) (0 ∷ 1 ∷ 1 ∷ 0 ∷ 2 ∷ 0 ∷ 1 ∷ 2 ∷ 0 ∷ 1 ∷ 2 ∷ 1 ∷ 1 ∷ 2 ∷ []) (Done 7 3)
   -- P10 the same with capacity 6: refusal 8; the rows X0 p = 1, Z0X1 p = 3, Z0 p = 0
   pub p10 : Reduces 2 order listed [] three (9 ∷ 9 ∷ 9 ∷ 9 ∷ 9 ∷ 9 ∷ 9 ∷ 9 ∷ 9 ∷ 9 ∷ 9 ∷ 9 ∷ [])
-      (mem_of 3 (1 ∷ 2 ∷ 0 ∷ []) (0 ∷ 1 ∷ 1 ∷ []) (13 ∷ [])) (0 ∷ 1 ∷ 1 ∷ 0 ∷ 2 ∷ 0 ∷ 1 ∷ 2 ∷ 0 ∷ 1 ∷ 2 ∷ 1 ∷ []) (reduced.Full 6)
-  pub p10-number : reduced_number (reduced.Full 6) ≡ 8
+      (mem_of 3 (1 ∷ 2 ∷ 0 ∷ []) (0 ∷ 1 ∷ 1 ∷ []) (13 ∷ [])) (0 ∷ 1 ∷ 1 ∷ 0 ∷ 2 ∷ 0 ∷ 1 ∷ 2 ∷ 0 ∷ 1 ∷ 2 ∷ 1 ∷ []) (LogFull 6)
+  pub p10-number : reduced_number (LogFull 6) ≡ 8
   -- P11 bra 0, ket 1: 5-2i; bra 1, ket 1: -3; bra 3, ket 0: no block
   pub p11 : four 0 1 ≡ Sum (pos 5) (neg_ℤ (pos 2))
   pub p11-real : four 1 1 ≡ Sum (neg_ℤ (pos 3)) (pos 0)
@@ -99,7 +90,7 @@ pub record Table : Type 0 where
   -- P12 a lone Z term of coefficient -2147483648, bra 1, ket 1
   pub p12 : whole.element_of 1 (0 ∷ []) (1 ∷ []) (neg_ℤ (pos 2147483648) ∷ []) (pos 0 ∷ []) 1 1 ≡ Sum (pos 2147483648) (pos 0)
   -- floats in list order: 1, 1e16, -1e16 sum to 0, the reversed list to 1
-  pub list-order : summed one e16 minus_e16 ≡ sum.Sum float.plus_zero float.plus_zero
-  pub reversed : summed minus_e16 e16 one ≡ sum.Sum one float.plus_zero
+  pub list-order : summed one e16 minus_e16 ≡ Sum float.plus_zero float.plus_zero
+  pub reversed : summed minus_e16 e16 one ≡ Sum one float.plus_zero
   -- the largest finite f64 twice in one block, exponent 0: 12
-  pub twice : float.element_of 1 (0 ∷ 0 ∷ []) (0 ∷ 0 ∷ []) (largest ∷ largest ∷ []) (float.plus_zero ∷ float.plus_zero ∷ []) 0 0 ≡ sum.Refused 12
+  pub twice : float.element_of 1 (0 ∷ 0 ∷ []) (0 ∷ 0 ∷ []) (largest ∷ largest ∷ []) (float.plus_zero ∷ float.plus_zero ∷ []) 0 0 ≡ Refused 12

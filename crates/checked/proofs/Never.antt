@@ -1,12 +1,12 @@
 -- Pairs whose sizes, multiplied, stay below 2^63: no number of the twelve leaves i64. By |xy| = |x||y| and |x + y| at most |x| + |y|, part by part. And
 -- what a number of the range is. Assumes nothing.
 use mathlib.Core.Path.{◌≡◌, refl, sym, ap₂, ◌∙◌}
-use mathlib.Core.Bool.{Bool, true, false, ◌&&◌, false≢true}
+use mathlib.Core.Bool.{Bool, true, false, ◌&&◌}
 use Prim.Native.Nat.{ℕ, zero, suc, ◌+◌, ◌*◌, ◌^◌, ◌<◌, ◌≤◌}
 use native.Mathlib.Nat.{le_refl, le_trans, lt_of_le_of_lt, mul-le-mul, mul-add, add-mul}
 use native.Mathlib.Omega.{arith}
-use borrow.Author.Tests.{lt-ltb, ltb-true}
-use lib.Dec.{leb, ltb, leb-suc-suc, lit<}
+use borrow.Author.Tests.{lt-ltb}
+use lib.Dec.{leb, leb-suc-suc}
 use lib.IntN.{ℤ, pos, negsuc, neg_ℤ, nat_abs, sub_ℕ, ◌+ℤ◌, ◌-ℤ◌, ◌*ℤ◌}
 use lib.Signed.{le_z}
 use Rattle.pauli.specs.Gauss.{Gauss, ◌⊕◌, ◌⊗◌}
@@ -105,22 +105,6 @@ pair_small b k e h g =
     let c = conj-size b k in
     let d : size_of (conj_times b k) * size_of e ≤ size_of b * size_of k * size_of e = mul-le-mul c (le_refl (size_of e)) in
     rw (four-small b k h, both_small (conj_times b k) (lt_of_le_of_lt c h), four-small (conj_times b k) e (lt_of_le_of_lt d g), both_small (pair_of b k e) (lt_of_le_of_lt (le_trans (times-size (conj_times b k) e) d) g))
-
--- ---- short numbers
-
-pub short-law : (a b : ℤ) {x y : ℕ} → x ≡ nat_abs a → y ≡ nat_abs b → (ltb x 4294967296 && ltb y 2147483648) ≡ true → true ≡ within (a *ℤ b)
-short-law a b {x} {y} p q e =
-    let h = both_true (ltb x 4294967296) (ltb y 2147483648) e in
-    let f : x ≤ 4294967296 = omega (arith, ltb-true x 4294967296 h.0) in
-    let g : y ≤ 2147483647 = omega (arith, ltb-true y 2147483648 h.1) in
-    let m : x * y ≤ 4294967296 * 2147483647 = mul-le-mul f g in
-    let n : nat_abs (a *ℤ b) ≤ 4294967296 * 2147483647 = rw (nat_abs_mul a b, ← p, ← q) m in
-    sym (small (a *ℤ b) n (lit< tt))
-  where
-    both_true : (f g : Bool) → f && g ≡ true → (f ≡ true) × (g ≡ true)
-    both_true true true e = (refl, refl)
-    both_true true false e = absurd (false≢true e)
-    both_true false g e = absurd (false≢true e)
 
 -- ---- the range in other words
 plain : (b : Bool) → b && true ≡ b

@@ -9,7 +9,7 @@ use lib.Dec.{eqb}
 use Rattle.pauli.specs.Row.{Row, mul_row}
 use Rattle.encoding.specs.Limits.{words_of}
 use Rattle.encoding.specs.Set.{Mem, count, rows_of, lay}
-use Rattle.encoding.specs.declared.Answer.TheVariants.{Done}
+use Rattle.std.specs.Prelude.{Ok}
 use Rattle.encoding.proofs.Memory.{Proper, read-lay, count-lay}
 use Rattle.encoding.proofs.Sets.{read-proper}
 use Rattle.reduction.specs.Lists.{All}
@@ -62,7 +62,7 @@ module _ (n m : ℕ) where
 -- ---- in memory: M is the start, R what the log made of it; the gate on both
 
 module _ (n : ℕ) (g : Gate) {M M' R R' : Mem} (es : List Entry) (into : All (In (count M)) es) (done : R ≡ lay n (count M) (replay (mul_row n) (rows_of n M) es))
-    (c : Conjugates n g M M' Done) (d : Conjugates n g R R' Done) where
+    (c : Conjugates n g M M' (Ok tt)) (d : Conjugates n g R R' (Ok tt)) where
   wide : n ≤ words_of n * 64
   wide = omega arith
 

@@ -1,6 +1,6 @@
 -- The loop over the rows. Rows below i are conjugated, the others are as they were; row i is next. At the end all are, and the memory is the one laid
 -- from them. Assumes nothing.
-use mathlib.Core.Path.{◌≡◌, refl, sym, ap, ◌∙◌, subst}
+use mathlib.Core.Path.{◌≡◌, sym, ap, ◌∙◌, subst}
 use Prim.Native.Nat.{ℕ, ◌+◌, ◌<◌, ◌≤◌}
 use native.Mathlib.Decide.{ℕ_discrete}
 use native.Mathlib.Omega.{arith}
@@ -20,9 +20,6 @@ pub record Doing (n : ℕ) (g : Gate) (M₀ M : Mem) (i : ℕ) : Type 0 where
   pub left : (k : ℕ) → k < count M₀ → i ≤ k → rows_of n M k ≡ rows_of n M₀ k
 
 module _ (n : ℕ) (g : Gate) {M₀ : Mem} where
-  pub doing-none : Sound n M₀ → Doing n g M₀ M₀ 0
-  doing-none s = record { sound = s; done = λ k _ h. absurd (omega arith); left = λ k _ _. refl }
-
   pub doing-more : {M M' : Mem} (i : ℕ) → Doing n g M₀ M i → count M ≡ count M₀ → i < count M₀ → Changed n i (conj_row n g) M M' → Doing n g M₀ M' (i + 1)
   doing-more {M} {M'} i d e hi c =
       let σ = rows_of n M in

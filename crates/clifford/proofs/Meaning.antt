@@ -1,4 +1,4 @@
--- What a call that answers Done has done, by its contract alone: each row's matrix with its phase before and after, the commutation matrix word for word
+-- What a call that is not refused has done, by its contract alone: each row's matrix with its phase before and after, the commutation matrix word for word
 -- the same, and the set taken by every call again. A gate several times gives back the set. Assumes nothing.
 use mathlib.Core.Path.{◌≡◌, sym, ap, ap₂, ◌∙◌, subst}
 use mathlib.Core.Logic.{◌↔◌}
@@ -14,8 +14,8 @@ use Rattle.encoding.specs.Limits.{max_qubits, max_rows, words_of}
 use Rattle.encoding.specs.Words.{lay_rows}
 use Rattle.encoding.specs.Set.{Mem, count, rows_of, list, lay, Sound}
 use Rattle.encoding.specs.Refusals.{least, set_lines, done_or, left_or}
-use Rattle.encoding.specs.declared.Answer.{Answer}
-use Rattle.encoding.specs.declared.Answer.TheVariants.{Done, Refused}
+use Rattle.encoding.specs.declared.Refusal.{Refusal}
+use Rattle.std.specs.Prelude.{Result, Ok, Err}
 use Rattle.encoding.proofs.Again.{lay-passes}
 use Rattle.encoding.proofs.Faults.{or-none, done_none}
 use Rattle.encoding.proofs.Memory.{within-limits, read-lay, count-lay, lay-back}
@@ -49,7 +49,7 @@ module _ (n : ℕ) (M : Mem) (g : Gate) (e : gate_fault n M g ≡ 0) where
 
 -- ---- one call
 
-module _ (n : ℕ) (g : Gate) {M M' : Mem} (c : Conjugates n g M M' Done) where
+module _ (n : ℕ) (g : Gate) {M M' : Mem} (c : Conjugates n g M M' (Ok tt)) where
   pub none-fits : gate_fault n M g ≡ 0
   none-fits = done_none (gate_fault n M g) (sym c.answer)
 
@@ -106,7 +106,7 @@ module _ (n : ℕ) (g : Gate) {M M' : Mem} (c : Conjugates n g M M' Done) where
       ∙ ap (λ (k : ℕ). laid_matrix k (commuting n M')) (sym count_same)
 
   -- the commutation matrix before and after is the same, word for word, and so is the answer
-  pub matrix-kept : {out out₁ out₂ : List ℕ} {a b : Answer} → CompatibilityMatrix n M out out₁ a → CompatibilityMatrix n M' out out₂ b → (a ≡ b) × (out₁ ≡ out₂)
+  pub matrix-kept : {out out₁ out₂ : List ℕ} {a b : Result Unit Refusal} → CompatibilityMatrix n M out out₁ a → CompatibilityMatrix n M' out out₂ b → (a ≡ b) × (out₁ ≡ out₂)
   matrix-kept {out} d e =
       let f = matrix-fault-kept (length out) in
       (d.answer ∙ ap done_or f ∙ sym e.answer, d.matrix ∙ ap₂ (λ (k : ℕ) (l : List ℕ). left_or k out l) f bits-kept ∙ sym e.matrix)
@@ -116,7 +116,7 @@ module _ (n : ℕ) (g : Gate) {M M' : Mem} (c : Conjugates n g M M' Done) where
 -- k calls one after the other, all done
 abbrev pub Calls : ℕ → ℕ → Gate → Mem → Mem → Type 0
 Calls zero n g M M' = M' ≡ M
-Calls (suc k) n g M M' = (N : Mem) × (Calls k n g M N × Conjugates n g N M' Done)
+Calls (suc k) n g M M' = (N : Mem) × (Calls k n g M N × Conjugates n g N M' (Ok tt))
 
 -- the rows that k calls leave
 record After (n : ℕ) (g : Gate) (k : ℕ) (M M' : Mem) : Type 0 where
@@ -149,10 +149,10 @@ set_back n g {M} {M'} s h d =
 -- ---- refusals, and one outcome
 
 -- number k + 1 is given exactly when its line of the table fits the call and none above it does
-pub refused-when : (n : ℕ) (g : Gate) {M M' : Mem} {a : Answer} (k : ℕ) → Conjugates n g M M' a → (a ≡ Refused (suc k)) ↔ Given (suc k) (set_lines n M ++ gate_lines n g)
+pub refused-when : (n : ℕ) (g : Gate) {M M' : Mem} {a : Result Unit Refusal} (k : ℕ) → Conjugates n g M M' a → (a ≡ Err (record { 0 = suc k })) ↔ Given (suc k) (set_lines n M ++ gate_lines n g)
 refused-when n g {M} k c =
-    let i = answer-refused (set_lines n M ++ gate_lines n g) k in
+    let i = answer-refused tt (set_lines n M ++ gate_lines n g) k in
     (λ e. i.0 (sym c.answer ∙ e), λ f. c.answer ∙ i.1 f)
 
-pub conj-clifford-one : {n : ℕ} {g : Gate} {M M₁ M₂ : Mem} {a b : Answer} → Conjugates n g M M₁ a → Conjugates n g M M₂ b → (a ≡ b) × (M₁ ≡ M₂)
+pub conj-clifford-one : {n : ℕ} {g : Gate} {M M₁ M₂ : Mem} {a b : Result Unit Refusal} → Conjugates n g M M₁ a → Conjugates n g M M₂ b → (a ≡ b) × (M₁ ≡ M₂)
 conj-clifford-one c d = (c.answer ∙ sym d.answer, c.rows ∙ sym d.rows)

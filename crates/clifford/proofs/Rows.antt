@@ -3,7 +3,7 @@
 use mathlib.Core.Path.{◌≡◌, refl, sym, ap, ap₂, ◌∙◌}
 use mathlib.Core.Bool.{Bool, true, false, cond, not, ◌&&◌, beq}
 use mathlib.Core.List.{List}
-use Prim.Native.Nat.{ℕ, ◌+◌, ◌*◌, ◌%◌, ◌<◌, ◌≤◌}
+use Prim.Native.Nat.{ℕ, ◌+◌, ◌*◌, ◌%◌, ◌<◌}
 use native.Mathlib.Decide.{ℕ_discrete}
 use native.Mathlib.Omega.{arith}
 use lib.ListN.{length, get_or, set, length-set}
@@ -15,7 +15,7 @@ use Rattle.pauli.specs.declared.QubitNumber.{QubitNumber}
 use Rattle.pauli.specs.Row.{Row}
 use Rattle.pauli.proofs.OnQubits.{length-on, on_same}
 use Rattle.pauli.proofs.RowLaws.{row-eq}
-use Rattle.encoding.specs.Limits.{max_qubits, max_rows, words_of}
+use Rattle.encoding.specs.Limits.{words_of}
 use Rattle.encoding.specs.Words.{lay_rows}
 use Rattle.encoding.specs.Set.{Mem, mem_of, count, phase_units, exponent_at, lay_exponents, rows_held, rows_of, list, lay_in, lay, Sound}
 use Rattle.encoding.proofs.Memory.{mem-eq}
@@ -32,10 +32,6 @@ use Rattle.one_qubit.proofs.OneTurn.{xor-none, turned-long}
 use Rattle.one_qubit.proofs.View.{x-view, z-view, turn-view}
 use Rattle.clifford.specs.Workers.{RowReady, QubitReady, Changed, bit_in, turned_by, turned_both}
 use Rattle.clifford.proofs.Signs.{sign-other, sign-here}
-
--- what `place` asks
-pub in-limits : (n r q : ℕ) {M : Mem} → Sound n M → r < count M → q < n → (n ≤ max_qubits) × (r < max_rows) × (q < n)
-in-limits n r q s hr hq = (s.few-qubits, omega (arith, hr, s.few-rows), hq)
 
 -- ---- the bits of one qubit turned, and the sign
 
@@ -148,9 +144,6 @@ module _ (n r : ℕ) (M : Mem) (q : QubitNumber) {u v : Bool} (eu : u ≡ bit_in
 -- ---- controlled-X: the target is turned first, then the control, with the sign
 
 module _ (n r : ℕ) {M : Mem} (c t : QubitNumber) (d : RowReady n r (gate.CX c t) M) where
-  pub target-ready : QubitReady n r t.0 M
-  target-ready = record { sound = d.ready.sound; row_in = d.row_in; qubit-in = d.ready.places.1.1.0 }
-
   -- after the target
   module _ (a : Bool) {xs' zs' es' : List ℕ} (e : Changed n r (turned_by t.0 a false false) M (mem_of (count M) xs' zs' es')) where
     fine : Fine n (turned_by t.0 a false false (rows_of n M r))

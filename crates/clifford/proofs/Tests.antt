@@ -7,10 +7,12 @@ use borrow.Author.Tests.{leb-false, eqb-false}
 use lib.Dec.{leb}
 use Rattle.encoding.specs.Limits.{words_of}
 use Rattle.encoding.specs.Set.{Mem, Valid}
-use Rattle.encoding.specs.Refusals.{set_lines}
-use Rattle.encoding.proofs.Faults.{or_else, or-first, not-large}
+use Rattle.encoding.specs.Refusals.{set_lines, done_or}
+use Rattle.encoding.specs.declared.Refusal.{Refusal}
+use Rattle.encoding.proofs.Faults.{or_else, not-large, first_by, next_by}
 use Rattle.encoding.proofs.Scan.{none_of}
-use Rattle.encoding.proofs.Sets.{sound-of}
+use Rattle.encoding.proofs.Sets.{sound-when}
+use Rattle.std.specs.Prelude.{Result, Ok, Err, IfOk}
 use Rattle.encoding.specs.Ranks.{by_rank}
 use Rattle.encoding.proofs.Ranks.{rank-append}
 use Rattle.gates.specs.Places.{Places}
@@ -39,19 +41,17 @@ module _ (n : ℕ) (M : Mem) (g : Gate) where
   pub fault-is : gate_fault n M g ≡ or_else (by_rank (set_lines n M)) (cond (large_qubit n g) 6 (cond (one_qubit_gate g) 21 0))
   fault-is = rank-append (set_lines n M) (gate_lines n g) refl ∙ ap (or_else (by_rank (set_lines n M))) two-lines
 
-  -- a number of the set
-  pub set-number : {f : ℕ} → f ≡ by_rank (set_lines n M) → (f ≡ 0 → ⊥) → f ≡ gate_fault n M g
-  set-number {f} e ne = sym (fault-is ∙ ap (λ (k : ℕ). or_else k (cond (large_qubit n g) 6 (cond (one_qubit_gate g) 21 0))) (sym e) ∙ or-first f _ ne)
+  module _ {r : Result Unit Refusal} (by : r ≡ done_or (by_rank (set_lines n M))) where
+    -- a refusal of the set is the call's
+    pub set-refused : {e : Refusal} → r ≡ Err e → Err e ≡ done_or (gate_fault n M g)
+    set-refused h = first_by (by_rank (set_lines n M)) (cond (large_qubit n g) 6 (cond (one_qubit_gate g) 21 0)) tt by h tt ∙ ap done_or (sym fault-is)
 
-  module _ {f r v : ℕ} {a b : Bool} (ef : f ≡ by_rank (set_lines n M)) (z : f ≡ 0) (ea : a ≡ large_qubit n g) (eb : b ≡ one_qubit_gate g) (ev : v ≡ cond b 21 0) (er : r ≡ cond a 6 v) where
-    here : r ≡ cond (large_qubit n g) 6 (cond (one_qubit_gate g) 21 0)
-    here = er ∙ ap₂ (λ (t : Bool) (k : ℕ). cond t 6 k) ea (ev ∙ ap (λ (t : Bool). cond t 21 0) eb)
+    -- where the set has none, the gate's tests are all that is left
+    pub gate-told : r ≡ Ok tt → (a b : Bool) → large_qubit n g ≡ a → one_qubit_gate g ≡ b → done_or (cond a 6 (cond b 21 0)) ≡ done_or (gate_fault n M g)
+    gate-told h a b ea eb =
+        ap₂ (λ (s t : Bool). done_or (cond s 6 (cond t 21 0))) (sym ea) (sym eb)
+        ∙ next_by (by_rank (set_lines n M)) (cond (large_qubit n g) 6 (cond (one_qubit_gate g) 21 0)) tt by h tt refl
+        ∙ ap done_or (sym fault-is)
 
-    pub gate-number : r ≡ gate_fault n M g
-    gate-number = here ∙ sym (fault-is ∙ ap (λ (k : ℕ). or_else k (cond (large_qubit n g) 6 (cond (one_qubit_gate g) 21 0))) (sym ef ∙ z))
-
-    pub gate-ready : (f ≡ 0 → Valid n (words_of n) M) → r ≡ 0 → Ready n g M
-    gate-ready valid e =
-        let k = sym here ∙ e in
-        let p = two_none (large_qubit n g) (one_qubit_gate g) k in
-        record { sound = sound-of n M ef valid z; places = places_of n g p.0 p.1 }
+    pub gate-ready : IfOk r (λ _. Valid n (words_of n) M) → r ≡ Ok tt → large_qubit n g ≡ false → one_qubit_gate g ≡ false → Ready n g M
+    gate-ready v h ea eb = record { sound = sound-when n M by v h; places = places_of n g ea eb }

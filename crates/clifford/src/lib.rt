@@ -2,16 +2,17 @@
 
 #![tactic(auto)]
 
-ghost use Rattle.std.specs.Prelude.{◌≡◌, ◌≤◌, ◌<◌};
+ghost use Rattle.std.specs.Prelude.{◌≡◌, ◌≤◌, ◌<◌, IfOk};
 ghost use Rattle.encoding.specs.Limits.{max_qubits, max_rows};
-ghost use Rattle.encoding.specs.Set.{rows_of, lay, mem_of};
+ghost use Rattle.encoding.specs.Set.{rows_of, lay, mem_of, set_of};
+ghost use Rattle.encoding.specs.Refusals.{done_or};
 ghost use Rattle.gates.specs.Gates.{conj_row, conj_rows};
 ghost use Rattle.gates.specs.declared.Gate.TheVariants as gate;
 ghost use Rattle.clifford.specs.Calls.{large_qubit, one_qubit_gate, gate_fault, Conjugates};
 ghost use Rattle.one_qubit.specs.Leaves.{place_of};
 ghost use Rattle.clifford.specs.Workers.{Ready, RowReady, QubitReady, Changed, bit_in, turned_by, turned_both};
 
-use encoding::Answer;
+use encoding::{Refusal, RowSet};
 use gates::Gate;
 use pauli::{QubitNumber, RowNumber};
 
@@ -20,8 +21,7 @@ fn large_qubit(n: usize, g: Gate) -> bool
     ensures { result ≡ large_qubit n g }
 {
     match g {
-        Gate::H(q) => n <= q.0,
-        Gate::S(q) => n <= q.0,
+        Gate::H(q) | Gate::S(q) => n <= q.0,
         Gate::CX { control, target } => (n <= control.0) | (n <= target.0),
     }
 }
@@ -31,30 +31,28 @@ fn one_qubit_twice(g: Gate) -> bool
     ensures { result ≡ one_qubit_gate g }
 {
     match g {
-        Gate::H(q) => false,
-        Gate::S(q) => false,
+        Gate::H(_) | Gate::S(_) => false,
         Gate::CX { control, target } => control.0 == target.0,
     }
 }
 
-// The first line of the table, by rank, that fits a set and a gate, or 0.
-fn gate_fault(n: usize, m: usize, x: &[u64], z: &[u64], phases: &[u64], g: Gate) -> u8
-    ensures value { result ≡ gate_fault n (mem_of m x.now z.now phases.now) g }
-    ensures none { result ≡ 0 → Ready n g (mem_of m x.now z.now phases.now) }
+// Whether a set or a gate is refused, by the first line of the table that fits.
+fn gate_fault(set: &RowSet<'_>, g: Gate) -> Result<(), Refusal>
+    ensures value { result ≡ done_or (gate_fault set.now.n (set_of set.now) g) }
+    ensures ready { IfOk result (λ _. Ready set.now.n g (set_of set.now)) }
 {
-    let f = encoding::set_fault(n, m, x, z, phases);
-    if f != 0 {
-        return f;
+    encoding::set_fault(set)?;
+    if large_qubit(set.n, g) {
+        return Err(Refusal::LARGE_NUMBER);
     }
-    encoding::pick(
-        large_qubit(n, g),
-        6,
-        encoding::pick(one_qubit_twice(g), 21, 0),
-    )
+    if one_qubit_twice(g) {
+        return Err(Refusal::ONE_QUBIT_TWICE);
+    }
+    Ok(())
 }
 
 // The two bits of a Pauli.
-#[derive(Drop)]
+#[derive(Clone, Copy)]
 struct Bits {
     x: bool,
     z: bool,
@@ -71,8 +69,8 @@ fn place(n: usize, r: usize, q: usize) -> usize
 // The bits at qubit q of row r.
 fn read(n: usize, x: &[u64], z: &[u64], r: RowNumber, q: QubitNumber) -> Bits
     requires { (n ≤ max_qubits) × (r.0 < max_rows) × (q.0 < n) }
-    ensures { (result.x ≡ bit_in x.now (place_of n r.0 q.0))
-        × (result.z ≡ bit_in z.now (place_of n r.0 q.0)) }
+    ensures x { result.x ≡ bit_in x.now (place_of n r.0 q.0) }
+    ensures z { result.z ≡ bit_in z.now (place_of n r.0 q.0) }
 {
     let k = place(n, r.0, q.0);
     Bits {
@@ -240,14 +238,13 @@ fn all_rows(n: usize, m: usize, x: &mut [u64], z: &mut [u64], phases: &mut [u64]
     ensures { mem_of m x.new z.new phases.new
         ≡ lay n m (conj_rows n g (rows_of n (mem_of m x.old z.old phases.old))) }
 {
-    let mut r = 0;
-    while r < m {
+    for r in 0..m {
         gate_row(n, m, x, z, phases, RowNumber(r), g);
-        r += 1;
     }
 }
 
 // Every row of the set is conjugated by the gate.
+#[tactic(auto, using(encoding::proofs::Faults::refusing, encoding::proofs::Faults::passing, encoding::proofs::Faults::kept, encoding::proofs::Faults::made))]
 pub fn conj_clifford(
     n: usize,
     m: usize,
@@ -255,14 +252,11 @@ pub fn conj_clifford(
     z: &mut [u64],
     phases: &mut [u64],
     gate: Gate,
-) -> Answer
+) -> Result<(), Refusal>
     ensures { Conjugates n gate (mem_of m x.old z.old phases.old)
         (mem_of m x.new z.new phases.new) result }
 {
-    let f = gate_fault(n, m, x, z, phases, gate);
-    if f != 0 {
-        return Answer::Refused(f);
-    }
+    gate_fault(&RowSet { n, m, x, z, phases }, gate)?;
     all_rows(n, m, x, z, phases, gate);
-    Answer::Done
+    Ok(())
 }

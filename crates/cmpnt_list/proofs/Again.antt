@@ -15,7 +15,7 @@ use Rattle.encoding.specs.Limits.{words_of}
 use Rattle.encoding.specs.Set.{row, Mem, count, rows_held, rows_of, lay, lay_in, state_of, lay_state}
 use Rattle.encoding.specs.Refusals.{set_lines, state_lines, too_large, Readable, left_or}
 use Rattle.encoding.specs.Ranks.{by_rank}
-use Rattle.encoding.specs.declared.Answer.TheVariants.{Done}
+use Rattle.std.specs.Prelude.{Ok}
 use Rattle.encoding.proofs.WordLaws.{Fit, xors}
 use Rattle.encoding.proofs.Parts.{row-lay-list}
 use Rattle.encoding.proofs.Faults.{done_none}
@@ -24,13 +24,12 @@ use Rattle.encoding.proofs.Again.{lay-passes, state-passes}
 use Rattle.products.proofs.Xor.{product-x, product-z, acted-xor}
 use Rattle.cmpnt_list.specs.Calls.{pairwise_fault, pair_rows, MulPairwise, ImulState}
 use Rattle.cmpnt_list.specs.Workers.{BothReady}
-use Rattle.cmpnt_list.specs.declared.Phase.TheVariants as phase
 use Rattle.cmpnt_list.proofs.Tests.{Words64, asked_of, pairwise-asked}
 use Rattle.cmpnt_list.proofs.Meaning.{nothing, parts-ok, acted-long}
 
 -- ---- cmpnts_mul_pairwise
 
-module _ (n : ℕ) {L R O O' : Mem} {cs cs' : List ℕ} (wl : Words64 L) (wr : Words64 R) (c : MulPairwise n L R O O' cs cs' Done) where
+module _ (n : ℕ) {L R O O' : Mem} {cs cs' : List ℕ} (wl : Words64 L) (wr : Words64 R) (c : MulPairwise n L R O O' cs cs' (Ok tt)) where
   none-fits : pairwise_fault n L R O (length cs) ≡ 0
   none-fits = done_none (pairwise_fault n L R O (length cs)) (sym c.answer)
 
@@ -73,7 +72,7 @@ module _ (n : ℕ) {L R O O' : Mem} {cs cs' : List ℕ} (wl : Words64 L) (wr : W
 
 -- ---- imul_state
 
-module _ (n : ℕ) {M : Mem} (w : Words64 M) (r : ℕ) {st st' : List ℕ} {e : ℕ} (c : ImulState n M r st st' (phase.Exponent (record { 0 = e }))) where
+module _ (n : ℕ) {M : Mem} (w : Words64 M) (r : ℕ) {st st' : List ℕ} {e : ℕ} (c : ImulState n M r st st' (Ok (record { 0 = e }))) where
   asked : Readable n M (too_large (count M) r)
   asked = asked_of n w (too_large (count M) r) (parts-ok n w r c).0
 

@@ -17,13 +17,12 @@ use Rattle.pauli.specs.Row.{Row, eq_p}
 use Rattle.pauli.specs.Rows.{holding, count_of}
 use Rattle.pauli.proofs.Every.{every_p, at_p}
 use Rattle.encoding.specs.Words.{odd, bit, word, unpack}
-use Rattle.encoding.specs.Set.{part, Mem, bare, count, rows_held, rows_of, Valid}
+use Rattle.encoding.specs.Set.{Mem, count, rows_held, Valid}
 use Rattle.encoding.proofs.Memory.{clean, row_count}
 use Rattle.encoding.proofs.Padding.{Only}
 use Rattle.encoding.proofs.RowWords.{in_words, first-n}
 use Rattle.products.proofs.Masks.{Mask, var, inv, both, either, Below, counted, place, places, every_l, counts}
-use Rattle.cmpnt_list.specs.Workers.{masked, from_masks, RowAt}
-use Rattle.cmpnt_list.proofs.Views.{words-at}
+use Rattle.cmpnt_list.specs.Workers.{masked, from_masks}
 
 -- ---- what the masks count of a list, Pauli by Pauli
 
@@ -140,20 +139,12 @@ from-masks n X r = refl
 from-masks n Y r = refl
 from-masks n Z r = refl
 
--- the bits alone say it
-pub count-bare : (n : ℕ) (p : Pauli) (M : Mem) (r : ℕ) → count_of n p (rows_of n (bare M.m M.xs M.zs) r) ≡ count_of n p (rows_of n M r)
-unfolding count_of rows_held
-count-bare n I M r = refl
-count-bare n X M r = refl
-count-bare n Y M r = refl
-count-bare n Z M r = refl
-
-pub counted-row : (n w : ℕ) {M : Mem} → Valid n w M → (r : ℕ) → r < count M → {a e : ℕ} → RowAt r w (count M) a e → (p : Pauli) {k : ℕ}
-    → k ≡ masked p (unpack (part a e M.xs) (part a e M.zs)) → (from_masks p n k ≡ count_of n p (rows_held n w M r)) × (k ≤ n)
+pub counted-row : (n w : ℕ) {M : Mem} → Valid n w M → (r : ℕ) → r < count M → (p : Pauli) {k : ℕ}
+    → k ≡ masked p (in_words w M r) → (from_masks p n k ≡ count_of n p (rows_held n w M r)) × (k ≤ n)
 unfolding rows_held
-counted-row n w {M} v r h at p {k} q =
+counted-row n w {M} v r h p {k} q =
     let u = in_words w M r in
-    let c : k ≡ masked p (take n u) = q ∙ ap (masked p) (words-at at M) ∙ masked-take p n u (clean n w v r h) in (
+    let c : k ≡ masked p (take n u) = q ∙ masked-take p n u (clean n w v r h) in (
       ap (from_masks p n) (c ∙ ap (masked p) (first-n n w M r)) ∙ from-masks n p (rows_held n w M r),
       omega (arith, masked-le p (take n u), row_count n w v r h),
     )

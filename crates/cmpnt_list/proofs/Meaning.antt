@@ -4,7 +4,7 @@ use mathlib.Core.Path.{◌≡◌, refl, sym, ap, ap₂, ◌∙◌, subst}
 use mathlib.Core.Logic.{◌↔◌}
 use mathlib.Core.Bool.{Bool, true, false, ◌||◌}
 use mathlib.Core.List.{List}
-use Prim.Native.Nat.{ℕ, zero, suc, ◌+◌, ◌-◌, ◌*◌, ◌/◌, ◌%◌, ◌≤◌, ◌<◌}
+use Prim.Native.Nat.{ℕ, suc, ◌+◌, ◌-◌, ◌*◌, ◌/◌, ◌%◌, ◌≤◌, ◌<◌}
 use native.Mathlib.Nat.{div-add-mod'}
 use native.Mathlib.Decide.{ℕ_discrete}
 use native.Mathlib.Omega.{arith}
@@ -22,81 +22,47 @@ use Rattle.pauli.proofs.Meaning.{matrix-product, row-product, bare-exactly, comm
 use Rattle.encoding.specs.Limits.{max_rows, words_of}
 use Rattle.encoding.specs.Words.{bit_at}
 use Rattle.encoding.specs.Set.{Mem, count, exponent_at, rows_held, rows_of, list, lay, Valid, Sound, state_of, lay_state}
-use Rattle.encoding.specs.Refusals.{row_lines, state_lines, too_large, Readable, left_or}
+use Rattle.encoding.specs.Refusals.{row_lines, state_lines, too_large, Readable, answer_or, left_or}
 use Rattle.encoding.specs.Ranks.{TableLine, by_rank}
-use Rattle.encoding.proofs.Faults.{least-none, done_none}
-use Rattle.encoding.proofs.Ranks.{joined-fault, Given, given-iff}
+use Rattle.encoding.proofs.Faults.{least-none, value-is, done_none}
+use Rattle.encoding.proofs.Ranks.{joined-fault, Given, answer-refused}
 use Rattle.encoding.proofs.Memory.{row_count, read-lay, valid-lay, count-lay, Proper}
 use Rattle.encoding.proofs.Parts.{length-list, get_or-list}
 use Rattle.pauli.proofs.Lists.{length-each}
 use Rattle.pauli.proofs.OnQubits.{take_same}
 use Rattle.pauli.proofs.RowLaws.{pad-mul}
-use Rattle.encoding.specs.declared.Answer.TheVariants.{Done}
+use Rattle.pauli.specs.declared.ComplexSign.{ComplexSign}
+use Rattle.std.specs.Prelude.{Ok, Err}
 use Rattle.encoding.proofs.BitLaws.{bit-lay}
 use Rattle.encoding.proofs.States.{state-long, length-state, state-back}
 use Rattle.encoding.proofs.Exponents.{exponent_small}
 use Rattle.encoding.proofs.Sets.{read-passes, same-phases}
-use Rattle.cmpnt_list.specs.Calls.{got_or, tally_or, phase_or, truth_or, row_fault, rows_fault, qubit_fault, matrix_fault, pairwise_fault, action_fault, laid_matrix, commuting, pair_rows, pair_numbers, get_qubit, SetQubit, count_in, phase_of_mul, commutes_with, belongs_to_centralizer, CompatibilityMatrix, MulPairwise, ImulState}
-use Rattle.cmpnt_list.specs.declared.Got.TheVariants as got
-use Rattle.cmpnt_list.specs.declared.Tally.TheVariants as tally
-use Rattle.cmpnt_list.specs.declared.Phase.{Phase}
-use Rattle.cmpnt_list.specs.declared.Phase.TheVariants as phase
-use Rattle.cmpnt_list.specs.declared.Truth.TheVariants as truth
+use Rattle.cmpnt_list.specs.Calls.{phase_or, row_fault, rows_fault, qubit_fault, matrix_fault, pairwise_fault, action_fault, laid_matrix, commuting, pair_rows, pair_numbers, get_qubit, SetQubit, count_in, phase_of_mul, commutes_with, belongs_to_centralizer, CompatibilityMatrix, MulPairwise, ImulState}
 use Rattle.cmpnt_list.proofs.OneQubit.{with-here, with-other}
 use Rattle.cmpnt_list.proofs.Tests.{Words64, asked_of, pairwise-asked, both_small, state-parts}
 
 -- ---- a call that gives a value refuses nothing, and the value is the definition's
 
-tally-is : (f v c : ℕ) → tally_or f v ≡ tally.Number c → (f ≡ 0) × (v ≡ c)
-tally-is zero v c e = (refl, cc)
-tally-is (suc k) v c e = let z : ◌≡◌ {A = ℕ} 0 1 = cc in absurd (omega arith)
-
-truth-is : (f : ℕ) (v t : Bool) → truth_or f v ≡ truth.Is t → v ≡ t
-truth-is zero v t e = cc
-truth-is (suc k) v t e = let z : ◌≡◌ {A = ℕ} 0 1 = cc in absurd (omega arith)
-
-exponent_in : Phase → ℕ
-exponent_in (phase.Exponent e) = e.0
-exponent_in (phase.Refused k) = k
-
-phase-is : (f v e : ℕ) → phase_or f v ≡ phase.Exponent (record { 0 = e }) → (f ≡ 0) × (v ≡ e)
-unfolding exponent_in
-phase-is zero v e q = (refl, ap exponent_in q)
-phase-is (suc k) v e q = let z : ◌≡◌ {A = ℕ} 0 1 = cc in absurd (omega arith)
+phase-is : (f v e : ℕ) → phase_or f v ≡ Ok (record { 0 = e }) → (f ≡ 0) × (v ≡ e)
+phase-is f v e q = let p = value-is f _ _ q in (p.0, ap (λ (x : ComplexSign). x.0) p.1)
 
 -- ---- refusals: the number k + 1 is given exactly when its line of the table fits the call and none before it does
 
-pub got-refused : (p : Pauli) (ls : List TableLine) (k : ℕ) → (got_or (by_rank ls) p ≡ got.Refused (suc k)) ↔ Given (suc k) ls
-got-refused p = given-iff got.Refused (λ f. got_or f p) (λ k. refl) only
-  where
-    only : (f k : ℕ) → got_or f p ≡ got.Refused (suc k) → f ≡ suc k
-    only zero k e = let z : ◌≡◌ {A = ℕ} 0 1 = cc in absurd (omega arith)
-    only (suc f) k e = cc
+pub got-refused : (p : Pauli) (ls : List TableLine) (k : ℕ) → (answer_or (by_rank ls) p ≡ Err (record { 0 = suc k })) ↔ Given (suc k) ls
+got-refused = answer-refused
 
-pub tally-refused : (c : ℕ) (ls : List TableLine) (k : ℕ) → (tally_or (by_rank ls) c ≡ tally.Refused (suc k)) ↔ Given (suc k) ls
-tally-refused c = given-iff tally.Refused (λ f. tally_or f c) (λ k. refl) only
-  where
-    only : (f k : ℕ) → tally_or f c ≡ tally.Refused (suc k) → f ≡ suc k
-    only zero k e = let z : ◌≡◌ {A = ℕ} 0 1 = cc in absurd (omega arith)
-    only (suc f) k e = cc
+pub tally-refused : (c : ℕ) (ls : List TableLine) (k : ℕ) → (answer_or (by_rank ls) c ≡ Err (record { 0 = suc k })) ↔ Given (suc k) ls
+tally-refused = answer-refused
 
-pub phase-refused : (v : ℕ) (ls : List TableLine) (k : ℕ) → (phase_or (by_rank ls) v ≡ phase.Refused (suc k)) ↔ Given (suc k) ls
-phase-refused v = given-iff phase.Refused (λ f. phase_or f v) (λ k. refl) only
-  where
-    only : (f k : ℕ) → phase_or f v ≡ phase.Refused (suc k) → f ≡ suc k
-    only zero k e = let z : ◌≡◌ {A = ℕ} 0 1 = cc in absurd (omega arith)
-    only (suc f) k e = cc
+pub phase-refused : (v : ℕ) (ls : List TableLine) (k : ℕ) → (phase_or (by_rank ls) v ≡ Err (record { 0 = suc k })) ↔ Given (suc k) ls
+phase-refused v = answer-refused (record { 0 = v })
 
-pub truth-refused : (b : Bool) (ls : List TableLine) (k : ℕ) → (truth_or (by_rank ls) b ≡ truth.Refused (suc k)) ↔ Given (suc k) ls
-truth-refused b = given-iff truth.Refused (λ f. truth_or f b) (λ k. refl) only
-  where
-    only : (f k : ℕ) → truth_or f b ≡ truth.Refused (suc k) → f ≡ suc k
-    only zero k e = let z : ◌≡◌ {A = ℕ} 0 1 = cc in absurd (omega arith)
-    only (suc f) k e = cc
+pub truth-refused : (b : Bool) (ls : List TableLine) (k : ℕ) → (answer_or (by_rank ls) b ≡ Err (record { 0 = suc k })) ↔ Given (suc k) ls
+truth-refused = answer-refused
 
 -- ---- phase_of_mul: matrix(a) matrix(b) is i to the answer times matrix(ab)
 
-pub phase-meaning : (n : ℕ) (M : Mem) (a b e : ℕ) → phase_of_mul n M a b ≡ phase.Exponent (record { 0 = e })
+pub phase-meaning : (n : ℕ) (M : Mem) (a b e : ℕ) → phase_of_mul n M a b ≡ Ok (record { 0 = e })
     → Same n (times n (matrix_of n (rows_of n M a)) (matrix_of n (rows_of n M b))) (scaled (ipow e) (matrix_of n (mul_row n (rows_of n M a) (rows_of n M b))))
 unfolding phase_of_mul
 phase-meaning n M a b e q =
@@ -105,43 +71,43 @@ phase-meaning n M a b e q =
 
 -- ---- commutes_with, belongs_to_centralizer: true exactly when the matrices commute
 
-pub commutes-meaning : (n : ℕ) (M : Mem) (a b : ℕ) (t : Bool) → commutes_with n M a b ≡ truth.Is t
+pub commutes-meaning : (n : ℕ) (M : Mem) (a b : ℕ) (t : Bool) → commutes_with n M a b ≡ Ok t
     → (t ≡ true) ↔ Commute n (row_matrix n (rows_of n M a)) (row_matrix n (rows_of n M b))
 unfolding commutes_with
 commutes-meaning n M a b t q =
-    let e = truth-is (rows_fault n M a b) (commute n (rows_of n M a) (rows_of n M b)) t q in
+    let e = value-is (rows_fault n M a b) (commute n (rows_of n M a) (rows_of n M b)) t q in
     let i = commute-iff n (rows_of n M a) (rows_of n M b) in
-    (λ h. i.1 (e ∙ h), λ f. sym e ∙ i.0 f)
+    (λ h. i.1 (e.1 ∙ h), λ f. sym e.1 ∙ i.0 f)
 
-pub central-meaning : (n : ℕ) (M : Mem) (r : ℕ) (t : Bool) → belongs_to_centralizer n M r ≡ truth.Is t
+pub central-meaning : (n : ℕ) (M : Mem) (r : ℕ) (t : Bool) → belongs_to_centralizer n M r ≡ Ok t
     → (t ≡ true) ↔ ((k : ℕ) → k < count M → Commute n (row_matrix n (rows_of n M r)) (row_matrix n (rows_of n M k)))
 unfolding belongs_to_centralizer
 central-meaning n M r t q =
-    let e = truth-is (row_fault n M r) (central n (count M) (rows_of n M) r) t q in
+    let e = value-is (row_fault n M r) (central n (count M) (rows_of n M) r) t q in
     let i = central-iff n (count M) (rows_of n M) r in
-    (λ h. i.0 (e ∙ h), λ f. sym e ∙ i.1 f)
+    (λ h. i.0 (e.1 ∙ h), λ f. sym e.1 ∙ i.1 f)
 
 -- ---- count: of the four counts of a row the sum is n, so that of I is n less the others
 
-pub count-meaning : (n : ℕ) (M : Mem) (r i x y z : ℕ) → count_in n M r I ≡ tally.Number i → count_in n M r X ≡ tally.Number x → count_in n M r Y ≡ tally.Number y
-    → count_in n M r Z ≡ tally.Number z → i ≡ n - (x + y + z)
+pub count-meaning : (n : ℕ) (M : Mem) (r i x y z : ℕ) → count_in n M r I ≡ Ok i → count_in n M r X ≡ Ok x → count_in n M r Y ≡ Ok y
+    → count_in n M r Z ≡ Ok z → i ≡ n - (x + y + z)
 unfolding count_in
 count-meaning n M r i x y z ei ex ey ez =
     let R = rows_of n M r in
     let f = row_fault n M r in
-    omega (arith, counts-add-up n R, (tally-is f (count_of n I R) i ei).1, (tally-is f (count_of n X R) x ex).1, (tally-is f (count_of n Y R) y ey).1, (tally-is f (count_of n Z R) z ez).1)
+    omega (arith, counts-add-up n R, (value-is f (count_of n I R) i ei).1, (value-is f (count_of n X R) x ex).1, (value-is f (count_of n Y R) y ey).1, (value-is f (count_of n Z R) z ez).1)
 
 -- each count is the number of qubits that hold the Pauli
-pub count-holding : (n : ℕ) {M : Mem} → Words64 M → (r : ℕ) (p : Pauli) (c : ℕ) → count_in n M r p ≡ tally.Number c → c ≡ holding p (rows_of n M r).ps
+pub count-holding : (n : ℕ) {M : Mem} → Words64 M → (r : ℕ) (p : Pauli) (c : ℕ) → count_in n M r p ≡ Ok c → c ≡ holding p (rows_of n M r).ps
 unfolding count_in rows_held
 count-holding n {M} w r p c e =
-    let t = tally-is (row_fault n M r) (count_of n p (rows_of n M r)) c e in
+    let t = value-is (row_fault n M r) (count_of n p (rows_of n M r)) c e in
     let g = asked_of n w (too_large (count M) r) t.0 in
     sym t.1 ∙ count_held n p (rows_of n M r) (row_count n (words_of n) g.ready.valid r (leb-false (count M) r g.small))
 
 -- ---- compatibility_matrix: bit j of row i is set exactly when the matrices of rows i and j commute; the spare bits are zero
 
-module _ (n : ℕ) {M : Mem} {out out' : List ℕ} (c : CompatibilityMatrix n M out out' Done) where
+module _ (n : ℕ) {M : Mem} {out out' : List ℕ} (c : CompatibilityMatrix n M out out' (Ok tt)) where
   matrix-bit : (i j : ℕ) → i < count M → j < words_of (count M) * 64
       → bit_at out' (i * words_of (count M) + j / 64) (j % 64) ≡ get_or (list (count M) (λ j. commuting n M i j)) j false
   matrix-bit i j hi hj =
@@ -167,7 +133,7 @@ module _ (n : ℕ) {M : Mem} {out out' : List ℕ} (c : CompatibilityMatrix n M 
 
 -- ---- cmpnts_mul_pairwise: the matrix of a row that is written is the product of the matrices of left and right, each with its phase
 
-module _ (n : ℕ) {L R O O' : Mem} {cs cs' : List ℕ} (wl : Words64 L) (wr : Words64 R) (c : MulPairwise n L R O O' cs cs' Done) where
+module _ (n : ℕ) {L R O O' : Mem} {cs cs' : List ℕ} (wl : Words64 L) (wr : Words64 R) (c : MulPairwise n L R O O' cs cs' (Ok tt)) where
   no-fault : pairwise_fault n L R O (length cs) ≡ 0
   no-fault = done_none (pairwise_fault n L R O (length cs)) (sym c.answer)
 
@@ -216,7 +182,7 @@ module _ (n : ℕ) {L R O O' : Mem} {cs cs' : List ℕ} (wl : Words64 L) (wr : W
 
 -- ---- imul_state: the new state is the row's action on the old, and the row's matrix applied to its vector is i to the exponent times the new one's
 
-module _ (n : ℕ) {M : Mem} (w : Words64 M) (r : ℕ) {st st' : List ℕ} {e : ℕ} (c : ImulState n M r st st' (phase.Exponent (record { 0 = e }))) where
+module _ (n : ℕ) {M : Mem} (w : Words64 M) (r : ℕ) {st st' : List ℕ} {e : ℕ} (c : ImulState n M r st st' (Ok (record { 0 = e }))) where
   pub nothing : action_fault n M r st ≡ 0
   nothing = (phase-is (action_fault n M r st) (act_phase_on n (rows_of n M r) (state_of n st)) e (sym c.answer)).0
 
@@ -250,7 +216,7 @@ module _ (n : ℕ) {M : Mem} (w : Words64 M) (r : ℕ) {st st' : List ℕ} {e : 
 
 -- ---- set_qubit: the Pauli that was set is read back; every other qubit, every other row and every exponent is as it was
 
-module _ (n : ℕ) {M : Mem} (w : Words64 M) (r q : ℕ) (p : Pauli) {M' : Mem} (c : SetQubit n M r q p M' Done) where
+module _ (n : ℕ) {M : Mem} (w : Words64 M) (r q : ℕ) (p : Pauli) {M' : Mem} (c : SetQubit n M r q p M' (Ok tt)) where
   none-fits : qubit_fault n M r q ≡ 0
   none-fits = done_none (qubit_fault n M r q) (sym c.answer)
 
@@ -321,7 +287,7 @@ module _ (n : ℕ) {M : Mem} (w : Words64 M) (r q : ℕ) (p : Pauli) {M' : Mem} 
       byte k (yes e) = ap (λ (x : Row). x.p) (with-here (rows_of n M) r q p k e) ∙ ap (exponent_at M.es) (sym e)
       byte k (no ne) = ap (λ (x : Row). x.p) (with-other (rows_of n M) r q p k ne)
 
-  pub set-then-get : get_qubit n M' r q ≡ got.Is p
-  unfolding get_qubit
+  pub set-then-get : get_qubit n M' r q ≡ Ok p
+  unfolding get_qubit answer_or
   set-then-get =
-      ap₂ got_or (read-passes n M' set-ready (leb (count M') r || leb n q) (ap (λ (k : ℕ). leb k r || leb n q) set-count ∙ asked.small)) set_here
+      ap₂ (λ (f : ℕ) (v : Pauli). answer_or f v) (read-passes n M' set-ready (leb (count M') r || leb n q) (ap (λ (k : ℕ). leb k r || leb n q) set-count ∙ asked.small)) set_here

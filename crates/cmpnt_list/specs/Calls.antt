@@ -1,6 +1,6 @@
 -- RULES 4, "Products and actions", and 9, "Refusals", call by call over a row set: the tests that a call makes, what it answers, and what stands
 -- in each lent buffer when it returns. M is a set in memory and n its number of qubits; a refusal leaves every buffer as it was. Assumes nothing.
-use Rattle.std.specs.Prelude.{◌≡◌, Bool, not, ◌||◌, List, [], ◌∷◌, ℕ, zero, suc, ◌*◌, eqb, length, get_or}
+use Rattle.std.specs.Prelude.{◌≡◌, Bool, not, ◌||◌, List, [], ◌∷◌, ℕ, ◌*◌, eqb, length, get_or, Result}
 use Rattle.pauli.specs.Pauli.{Pauli}
 use Rattle.pauli.specs.declared.PauliMatrix.TheVariants.{I}
 use Rattle.pauli.specs.Row.{Row, mul_row}
@@ -8,35 +8,15 @@ use Rattle.pauli.specs.Rows.{phase_of, clashes_of, commute, central, count_of, w
 use Rattle.encoding.specs.Limits.{words_of}
 use Rattle.encoding.specs.Words.{lay_rows}
 use Rattle.encoding.specs.Set.{Mem, count, rows_of, list, lay, state_of, lay_state}
-use Rattle.encoding.specs.Refusals.{many_rows, set_lines, out_lines, state_lines, too_large, read_lines, row_lines, rows_lines, done_or, left_or}
+use Rattle.encoding.specs.Refusals.{many_rows, set_lines, out_lines, state_lines, too_large, read_lines, row_lines, rows_lines, answer_or, done_or, left_or}
 use Rattle.encoding.specs.Ranks.{TableLine, line, by_rank, joined}
-use Rattle.encoding.specs.declared.Answer.{Answer}
-use Rattle.cmpnt_list.specs.declared.Got.{Got}
-use Rattle.cmpnt_list.specs.declared.Got.TheVariants as got
-use Rattle.cmpnt_list.specs.declared.Tally.{Tally}
-use Rattle.cmpnt_list.specs.declared.Tally.TheVariants as tally
-use Rattle.cmpnt_list.specs.declared.Phase.{Phase}
-use Rattle.cmpnt_list.specs.declared.Phase.TheVariants as phase
-use Rattle.cmpnt_list.specs.declared.Truth.{Truth}
-use Rattle.cmpnt_list.specs.declared.Truth.TheVariants as truth
+use Rattle.encoding.specs.declared.Refusal.{Refusal}
+use Rattle.pauli.specs.declared.ComplexSign.{ComplexSign}
 
--- ---- what a call answers: the number of the refusal, or the value where none fits
+-- ---- what a call answers that gives a power of i: the refusal, or the exponent where none fits
 
-abbrev pub got_or : ℕ → Pauli → Got
-got_or zero p = got.Is p
-got_or (suc k) p = got.Refused (suc k)
-
-abbrev pub tally_or : ℕ → ℕ → Tally
-tally_or zero c = tally.Number c
-tally_or (suc k) c = tally.Refused (suc k)
-
-abbrev pub phase_or : ℕ → ℕ → Phase
-phase_or zero e = phase.Exponent (record { 0 = e })
-phase_or (suc k) e = phase.Refused (suc k)
-
-abbrev pub truth_or : ℕ → Bool → Truth
-truth_or zero b = truth.Is b
-truth_or (suc k) b = truth.Refused (suc k)
+abbrev pub phase_or : ℕ → ℕ → Result ComplexSign Refusal
+phase_or k e = answer_or k (record { 0 = e })
 
 -- ---- calls that read one set: the set is tested whole, then the numbers
 
@@ -51,28 +31,28 @@ abbrev pub qubit_fault : ℕ → Mem → ℕ → ℕ → ℕ
 qubit_fault n M r q = by_rank (read_lines n M (too_large (count M) r || too_large n q))
 
 -- get_qubit: the Pauli at qubit q of row r
-unfoldable pub get_qubit : ℕ → Mem → ℕ → ℕ → Got
-get_qubit n M r q = got_or (qubit_fault n M r q) (get_or (rows_of n M r).ps q I)
+unfoldable pub get_qubit : ℕ → Mem → ℕ → ℕ → Result Pauli Refusal
+get_qubit n M r q = answer_or (qubit_fault n M r q) (get_or (rows_of n M r).ps q I)
 
 -- count: how many qubits of row r hold a Pauli
-unfoldable pub count_in : ℕ → Mem → ℕ → Pauli → Tally
-count_in n M r p = tally_or (row_fault n M r) (count_of n p (rows_of n M r))
+unfoldable pub count_in : ℕ → Mem → ℕ → Pauli → Result ℕ Refusal
+count_in n M r p = answer_or (row_fault n M r) (count_of n p (rows_of n M r))
 
 -- phase_of_mul: the exponent of the product of rows a and b, without the rows' own
-unfoldable pub phase_of_mul : ℕ → Mem → ℕ → ℕ → Phase
+unfoldable pub phase_of_mul : ℕ → Mem → ℕ → ℕ → Result ComplexSign Refusal
 phase_of_mul n M a b = phase_or (rows_fault n M a b) (phase_of n (rows_of n M a) (rows_of n M b))
 
 -- commutes_with: whether rows a and b commute
-unfoldable pub commutes_with : ℕ → Mem → ℕ → ℕ → Truth
-commutes_with n M a b = truth_or (rows_fault n M a b) (commute n (rows_of n M a) (rows_of n M b))
+unfoldable pub commutes_with : ℕ → Mem → ℕ → ℕ → Result Bool Refusal
+commutes_with n M a b = answer_or (rows_fault n M a b) (commute n (rows_of n M a) (rows_of n M b))
 
 -- belongs_to_centralizer: whether row r commutes with every row
-unfoldable pub belongs_to_centralizer : ℕ → Mem → ℕ → Truth
-belongs_to_centralizer n M r = truth_or (row_fault n M r) (central n (count M) (rows_of n M) r)
+unfoldable pub belongs_to_centralizer : ℕ → Mem → ℕ → Result Bool Refusal
+belongs_to_centralizer n M r = answer_or (row_fault n M r) (central n (count M) (rows_of n M) r)
 
 -- ---- set_qubit: qubit q of row r becomes p
 
-pub record SetQubit (n : ℕ) (M : Mem) (r q : ℕ) (p : Pauli) (M' : Mem) (a : Answer) : Type 0 where
+pub record SetQubit (n : ℕ) (M : Mem) (r q : ℕ) (p : Pauli) (M' : Mem) (a : Result Unit Refusal) : Type 0 where
   pub answer : a ≡ done_or (qubit_fault n M r q)
   pub rows : M' ≡ left_or (qubit_fault n M r q) M (lay n (count M) (with_qubit (rows_of n M) r q p))
 
@@ -93,7 +73,7 @@ laid_matrix m bits = lay_rows (λ (b : Bool). b) (words_of m) (list m (λ i. lis
 abbrev pub commuting : ℕ → Mem → ℕ → ℕ → Bool
 commuting n M i j = commute n (rows_of n M i) (rows_of n M j)
 
-pub record CompatibilityMatrix (n : ℕ) (M : Mem) (out out' : List ℕ) (a : Answer) : Type 0 where
+pub record CompatibilityMatrix (n : ℕ) (M : Mem) (out out' : List ℕ) (a : Result Unit Refusal) : Type 0 where
   pub answer : a ≡ done_or (matrix_fault n M (length out))
   pub matrix : out' ≡ left_or (matrix_fault n M (length out)) out (laid_matrix (count M) (commuting n M))
 
@@ -112,7 +92,7 @@ pair_rows n L R k = mul_row n (rows_of n L k) (rows_of n R k)
 abbrev pub pair_numbers : ℕ → Mem → Mem → List ℕ
 pair_numbers n L R = list (count L) (λ k. clashes_of n (rows_of n L k) (rows_of n R k))
 
-pub record MulPairwise (n : ℕ) (L R O O' : Mem) (cs cs' : List ℕ) (a : Answer) : Type 0 where
+pub record MulPairwise (n : ℕ) (L R O O' : Mem) (cs cs' : List ℕ) (a : Result Unit Refusal) : Type 0 where
   -- both have the m of the call
   pub one-m : count R ≡ count L
   pub answer : a ≡ done_or (pairwise_fault n L R O (length cs))
@@ -125,6 +105,6 @@ pub record MulPairwise (n : ℕ) (L R O O' : Mem) (cs cs' : List ℕ) (a : Answe
 abbrev pub action_fault : ℕ → Mem → ℕ → List ℕ → ℕ
 action_fault n M r st = by_rank (joined (row_lines n M r) (state_lines n st))
 
-pub record ImulState (n : ℕ) (M : Mem) (r : ℕ) (st st' : List ℕ) (a : Phase) : Type 0 where
+pub record ImulState (n : ℕ) (M : Mem) (r : ℕ) (st st' : List ℕ) (a : Result ComplexSign Refusal) : Type 0 where
   pub answer : a ≡ phase_or (action_fault n M r st) (act_phase_on n (rows_of n M r) (state_of n st))
   pub state : st' ≡ left_or (action_fault n M r st) st (lay_state n (act_on n (rows_of n M r) (state_of n st)))

@@ -1,6 +1,6 @@
 -- Numbers of the table, 0 for none: the smaller of two, and one after another; and what a refusal comes to in answers and buffers. Which number a list of
 -- lines gives stands in proofs/Ranks.antt. Assumes nothing.
-use mathlib.Core.Path.{◌≡◌, refl, sym, ap, ◌∙◌}
+use mathlib.Core.Path.{◌≡◌, refl, sym, ap, ◌∙◌, subst}
 use mathlib.Core.Bool.{Bool, true, false, cond, not}
 use Prim.Native.Nat.{ℕ, zero, suc, ◌*◌, ◌≤◌, ◌<◌}
 use native.Mathlib.Nat.{suc-ne-zero}
@@ -8,9 +8,10 @@ use native.Mathlib.Omega.{arith}
 use borrow.Author.Tests.{lt-ltb, le-ltb, eqb-true, not-false}
 use lib.Dec.{ltb, eqb}
 use lib.ListN.{length}
-use Rattle.encoding.specs.Refusals.{least, bad_lengths, wrong_lengths, done_or, left_or}
+use Rattle.encoding.specs.Refusals.{least, smaller, bad_lengths, wrong_lengths, answer_or, done_or, left_or}
 use Rattle.encoding.specs.Set.{Mem, count, phase_units}
-use Rattle.encoding.specs.declared.Answer.TheVariants.{Done, Refused}
+use Rattle.encoding.specs.declared.Refusal.{Refusal}
+use Rattle.std.specs.Prelude.{Result, Ok, Err, IfOk}
 use Rattle.encoding.proofs.Scan.{none_of}
 
 -- ---- the smaller number
@@ -70,28 +71,94 @@ not-large k false e = refl
 
 -- ---- what a refusal comes to
 
--- an answer by its number: where it is not 0 the refusal, where it is 0 what stands there
-pub refusing : {A : Type 0} (refuse by : ℕ → A) → ((k : ℕ) → refuse (suc k) ≡ by (suc k)) → {f g : ℕ} → f ≡ g → (f ≡ 0 → ⊥) → refuse f ≡ by g
-refusing {A} refuse by step {f} {g} e ne = go f ne ∙ ap by e
+-- an answer tells its number: a refusal is one with that number, and a value says that none fits
+pub refused-by : {A : Type 0} (f : ℕ) (v : A) {e : Refusal} → Err e ≡ answer_or f v → (e.0 ≡ f) × (f ≡ 0 → ⊥)
+unfolding answer_or
+refused-by zero v p = cc
+refused-by (suc k) v {e} p = let q : e ≡ record { 0 = suc k } = cc in (ap (λ (x : Refusal). x.0) q, suc-ne-zero k)
+
+pub passed-by : {A : Type 0} (f : ℕ) (v : A) {w : A} → Ok w ≡ answer_or f v → f ≡ 0
+unfolding answer_or
+passed-by zero v p = refl
+passed-by (suc k) v p = cc
+
+-- so another answer by that number is the same refusal, or its value; and what was there is left, or is not
+module _ {A B : Type 0} (f : ℕ) (v : A) {r : Result A Refusal} (by : r ≡ answer_or f v) where
+  pub refusing : {e : Refusal} → r ≡ Err e → (w : B) → Err e ≡ answer_or f w
+  unfolding answer_or
+  refusing h w = go f v (sym h ∙ by)
+    where
+      go : {e : Refusal} (f : ℕ) (v : A) → Err e ≡ answer_or f v → Err e ≡ answer_or f w
+      go zero v p = cc
+      go {e} (suc k) v p = let q : e ≡ record { 0 = suc k } = cc in ap (λ (x : Refusal). Err x) q
+
+  pub passing : {u : A} → r ≡ Ok u → (w : B) → Ok w ≡ answer_or f w
+  unfolding answer_or
+  passing h w = ap (λ (k : ℕ). answer_or k w) (sym (passed-by f v (sym h ∙ by)))
+
+  pub kept : {e : Refusal} → r ≡ Err e → (old new : B) → old ≡ left_or f old new
+  kept h old new = go f (refused-by f v (sym h ∙ by)).1
+    where
+      go : (f : ℕ) → (f ≡ 0 → ⊥) → old ≡ left_or f old new
+      go zero n = absurd (n refl)
+      go (suc k) n = refl
+
+  pub made : {u : A} → r ≡ Ok u → (old new : B) → new ≡ left_or f old new
+  made h old new = ap (λ (k : ℕ). left_or k old new) (sym (passed-by f v (sym h ∙ by)))
+
+pub value-is : {A : Type 0} (f : ℕ) (v c : A) → answer_or f v ≡ Ok c → (f ≡ 0) × (v ≡ c)
+unfolding answer_or
+value-is zero v c e = (refl, cc)
+value-is (suc k) v c e = cc
+
+pub done_none : (f : ℕ) → done_or f ≡ Ok tt → f ≡ 0
+done_none f e = passed-by f tt (sym e)
+
+-- what a call says of its value
+pub if-ok : {A : Type 0} {r : Result A Refusal} {u : A} (P : Type 0) → r ≡ Ok u → IfOk r (λ _. P) → P
+if-ok {A} {r} {u} P e h = let Q : Result A Refusal → Type 0 = λ r. IfOk r (λ _. P) in let q : Q (Ok u) = subst Q e h in q
+
+pub ok-when : {A : Type 0} {P : Type 0} (r : Result A Refusal) → ((u : A) → r ≡ Ok u → P) → IfOk r (λ _. P)
+ok-when (Ok u) h = h u refl
+ok-when (Err e) h = tt
+
+-- ---- one test after another: the first that refuses, else what the next answers
+
+pub first_by : {A B : Type 0} (f g : ℕ) (v : A) {r : Result A Refusal} {e : Refusal} → r ≡ answer_or f v → r ≡ Err e → (w : B) → Err e ≡ answer_or (or_else f g) w
+unfolding answer_or
+first_by zero g v by h w = let q : Err _ ≡ Ok v = sym h ∙ by in cc
+first_by (suc k) g v by h w = refusing (suc k) v by h w
+
+pub next_by : {A B : Type 0} (f g : ℕ) (v : A) {r : Result A Refusal} {u : A} {t : Result B Refusal} → r ≡ answer_or f v → r ≡ Ok u → (w : B) → t ≡ answer_or g w
+    → t ≡ answer_or (or_else f g) w
+next_by f g v by h w e = e ∙ ap (λ (k : ℕ). answer_or (or_else k g) w) (sym (passed-by f v (sym h ∙ by)))
+
+pub first-kept : {A B : Type 0} (f g : ℕ) (v : A) {r : Result A Refusal} {e : Refusal} → r ≡ answer_or f v → r ≡ Err e → (old new : B) → old ≡ left_or (or_else f g) old new
+unfolding answer_or
+first-kept zero g v by h old new = let q : Err _ ≡ Ok v = sym h ∙ by in cc
+first-kept (suc k) g v by h old new = refl
+
+pub next-left : {A B : Type 0} (f g : ℕ) (v : A) {r : Result A Refusal} {u : A} → r ≡ answer_or f v → r ≡ Ok u → (old new : B) {is : B} → is ≡ left_or g old new → is ≡ left_or (or_else f g) old new
+next-left f g v by h old new e = e ∙ ap (λ (k : ℕ). left_or (or_else k g) old new) (sym (passed-by f v (sym h ∙ by)))
+
+-- ---- two parts of a call
+
+pub smaller-is : (f g : ℕ) → smaller (done_or f) (done_or g) ≡ done_or (least f g)
+unfolding answer_or least
+smaller-is zero g = refl
+smaller-is (suc f) zero = refl
+smaller-is (suc f) (suc g) = go (ltb (suc f) (suc g))
   where
-    go : (k : ℕ) → (k ≡ 0 → ⊥) → refuse k ≡ by k
-    go zero h = absurd (h refl)
-    go (suc k) h = step k
+    go : (b : Bool) → Err (cond b (record { 0 = suc f }) (record { 0 = suc g })) ≡ done_or (cond b (suc f) (suc g))
+    go true = refl
+    go false = refl
 
-pub passing : {A : Type 0} (by : ℕ → A) {f g : ℕ} → f ≡ g → f ≡ 0 → by 0 ≡ by g
-passing by e z = ap by (sym z ∙ e)
-
-pub refused : (k : ℕ) → (k ≡ 0 → ⊥) → Refused k ≡ done_or k
-refused zero h = absurd (h refl)
-refused (suc k) h = refl
-
-pub kept : {A : Type 0} (k : ℕ) (old new : A) → (k ≡ 0 → ⊥) → old ≡ left_or k old new
-kept zero old new h = absurd (h refl)
-kept (suc k) old new h = refl
-
-pub done_none : (f : ℕ) → done_or f ≡ Done → f ≡ 0
-done_none zero e = refl
-done_none (suc k) e = let z : ◌≡◌ {A = ℕ} 0 1 = cc in absurd (omega arith)
+-- neither is refused where the call is not
+pub both-ok : (a b : Result Unit Refusal) {u : Unit} → smaller a b ≡ Ok u → (a ≡ Ok tt) × (b ≡ Ok tt)
+both-ok (Ok a) (Ok b) e = (refl, refl)
+both-ok (Ok a) (Err r) e = cc
+both-ok (Err l) (Ok b) e = cc
+both-ok (Err l) (Err r) e = cc
 
 -- ---- lengths
 

@@ -1,25 +1,18 @@
 -- The table of a row set as the code climbs it, each test after those before it: what has failed so far makes the definition's tests before it false, and what
 -- holds makes its test the first. Assumes nothing.
-use mathlib.Core.Path.{◌≡◌, sym, ap, ap₂, ◌∙◌}
+use mathlib.Core.Path.{◌≡◌, sym, ap, ◌∙◌}
 use mathlib.Core.Bool.{Bool, true, false, cond}
 use mathlib.Core.List.{List}
-use Prim.Native.Nat.{ℕ, suc, ◌-◌, ◌%◌, ◌≤◌, ◌<◌}
-use native.Mathlib.Nat.{suc-ne-zero}
+use Prim.Native.Nat.{ℕ, ◌-◌, ◌%◌, ◌≤◌, ◌<◌}
 use borrow.Author.Tests.{lt-ltb, le-ltb, eq-eqb, ne_eqb}
 use lib.ListN.{length, get_or, drop}
 use Rattle.encoding.specs.Limits.{max_qubits, max_rows, words_of}
 use Rattle.encoding.specs.Words.{word, unbits}
-use Rattle.encoding.specs.Set.{Mem, count, Valid}
+use Rattle.encoding.specs.Set.{Mem, count}
 use Rattle.encoding.specs.Refusals.{some, is_on, wrong_lengths, bad_bits, bad_phases, set_lines, out_lines, state_lines}
 use Rattle.encoding.specs.Ranks.{by_rank}
-use Rattle.encoding.proofs.WordLaws.{Fit}
 use Rattle.encoding.proofs.Spare.{spare-none, spare-last}
 use Rattle.encoding.proofs.States.{state-spare}
-use Rattle.encoding.proofs.Memory.{valid-of}
-
--- a number other than 0 says nothing of the set
-pub no-claim : {k v : ℕ} {P : Type 0} → v ≡ suc k → v ≡ 0 → P
-no-claim {k} e z = absurd (suc-ne-zero k (sym e ∙ z))
 
 module _ (n : ℕ) (M : Mem) where
   pub stop-1 : max_qubits < n → 1 ≡ by_rank (set_lines n M)
@@ -35,16 +28,25 @@ module _ (n : ℕ) (M : Mem) where
     unfolding by_rank
     stop-3 t = simp (le-ltb _ _ h1, le-ltb _ _ h2, ap (λ (k : ℕ). wrong_lengths k M) (sym hw) ∙ t)
 
-    pub go_on : wrong_lengths w M ≡ false → (b4 b5 : Bool) (r4 r5 : ℕ)
-        → b4 ≡ bad_bits n (count M) w M.xs M.zs → b5 ≡ bad_phases (count M) M.es → r5 ≡ cond b5 5 0 → r4 ≡ cond b4 4 r5 → r4 ≡ by_rank (set_lines n M)
-    unfolding by_rank
-    go_on t b4 b5 r4 r5 e4 e5 q5 q4 =
-        simp (le-ltb _ _ h1, le-ltb _ _ h2, ap (λ (k : ℕ). wrong_lengths k M) (sym hw) ∙ t)
-        (q4 ∙ ap₂ (λ (b : Bool) (k : ℕ). cond b 4 k) (e4 ∙ ap (λ (k : ℕ). bad_bits n (count M) k M.xs M.zs) hw) (q5 ∙ ap (λ (b : Bool). cond b 5 0) e5))
+    -- the lengths fit: of the bits and the exponents each test is made alone
+    module _ (t : wrong_lengths w M ≡ false) where
+      fits : wrong_lengths (words_of n) M ≡ false
+      fits = ap (λ (k : ℕ). wrong_lengths k M) (sym hw) ∙ t
 
-  -- the number, and what it tells
-  pub told : Fit M.xs → Fit M.zs → Fit M.es → {r : ℕ} → r ≡ by_rank (set_lines n M) → (r ≡ by_rank (set_lines n M)) × (r ≡ 0 → Valid n (words_of n) M)
-  told fx fz fe e = (e, λ z. valid-of n M fx fz fe (sym e ∙ z))
+      bits : {b : Bool} → b ≡ bad_bits n (count M) w M.xs M.zs → bad_bits n (count M) (words_of n) M.xs M.zs ≡ b
+      bits e = ap (λ (k : ℕ). bad_bits n (count M) k M.xs M.zs) (sym hw) ∙ sym e
+
+      pub stop-4 : true ≡ bad_bits n (count M) w M.xs M.zs → 4 ≡ by_rank (set_lines n M)
+      unfolding by_rank
+      stop-4 e = simp (le-ltb _ _ h1, le-ltb _ _ h2, fits, bits e)
+
+      pub stop-5 : false ≡ bad_bits n (count M) w M.xs M.zs → true ≡ bad_phases (count M) M.es → 5 ≡ by_rank (set_lines n M)
+      unfolding by_rank
+      stop-5 e g = simp (le-ltb _ _ h1, le-ltb _ _ h2, fits, bits e, sym g)
+
+      pub go_on : false ≡ bad_bits n (count M) w M.xs M.zs → false ≡ bad_phases (count M) M.es → 0 ≡ by_rank (set_lines n M)
+      unfolding by_rank
+      go_on e g = simp (le-ltb _ _ h1, le-ltb _ _ h2, fits, bits e, sym g)
 
 -- ---- a set that is written only
 
@@ -57,9 +59,9 @@ module _ (n : ℕ) (M : Mem) where
   unfolding by_rank
   out-2 h g = simp (le-ltb _ _ h, lt-ltb _ _ g)
 
-  pub out-3 : (w : ℕ) (b : Bool) (r : ℕ) → n ≤ max_qubits → count M ≤ max_rows → w ≡ words_of n → b ≡ wrong_lengths w M → r ≡ cond b 3 0 → r ≡ by_rank (out_lines n M)
+  pub out-3 : (w : ℕ) (b : Bool) → n ≤ max_qubits → count M ≤ max_rows → w ≡ words_of n → b ≡ wrong_lengths w M → cond b 3 0 ≡ by_rank (out_lines n M)
   unfolding by_rank
-  out-3 w b r h1 h2 hw eb er = simp (le-ltb _ _ h1, le-ltb _ _ h2) (er ∙ ap (λ (t : Bool). cond t 3 0) (eb ∙ ap (λ (k : ℕ). wrong_lengths k M) hw))
+  out-3 w b h1 h2 hw eb = simp (le-ltb _ _ h1, le-ltb _ _ h2) (ap (λ (t : Bool). cond t 3 0) (eb ∙ ap (λ (k : ℕ). wrong_lengths k M) hw))
 
 -- ---- a lent basis state
 
@@ -79,8 +81,8 @@ module _ (n : ℕ) (st : List ℕ) where
   pub state-none : (w : ℕ) → n ≤ max_qubits → w ≡ words_of n → length st ≡ w → n % 64 ≡ 0 → 0 ≡ by_rank (state_lines n st)
   state-none w h hw e z = high false h (e ∙ hw) (state-spare n st ∙ spare-none n st st (e ∙ hw) (e ∙ hw) z)
 
-  pub state-4 : (w : ℕ) (b : Bool) (r : ℕ) → n ≤ max_qubits → w ≡ words_of n → length st ≡ w → (n % 64 ≡ 0 → ⊥)
-      → b ≡ some is_on (drop (n % 64) (word 64 (get_or st (length st - 1) 0) (get_or st (length st - 1) 0))) → r ≡ cond b 4 0 → r ≡ by_rank (state_lines n st)
-  state-4 w b r h hw e ne eb er =
-      er ∙ high b h (e ∙ hw) (state-spare n st ∙ spare-last n st st (e ∙ hw) (e ∙ hw) ne
+  pub state-4 : (w : ℕ) (b : Bool) → n ≤ max_qubits → w ≡ words_of n → length st ≡ w → (n % 64 ≡ 0 → ⊥)
+      → b ≡ some is_on (drop (n % 64) (word 64 (get_or st (length st - 1) 0) (get_or st (length st - 1) 0))) → cond b 4 0 ≡ by_rank (state_lines n st)
+  state-4 w b h hw e ne eb =
+      high b h (e ∙ hw) (state-spare n st ∙ spare-last n st st (e ∙ hw) (e ∙ hw) ne
       ∙ ap (λ (j : ℕ). some is_on (drop (n % 64) (word 64 (get_or st (j - 1) 0) (get_or st (j - 1) 0)))) (sym (e ∙ hw)) ∙ sym eb)

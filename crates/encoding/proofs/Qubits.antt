@@ -8,8 +8,7 @@ use Prim.Native.Nat.{ℕ, ◌+◌, ◌*◌, ◌/◌, ◌%◌, ◌^◌, ◌≤◌
 use native.Mathlib.Nat.{suc-mul, div-add-mod'}
 use native.Mathlib.Decide.{dec_lt, ℕ_discrete}
 use native.Mathlib.Omega.{arith}
-use borrow.Author.Tests.{lt-ltb, le-ltb, eq-eqb, ne_eqb}
-use lib.Dec.{ltb}
+use borrow.Author.Tests.{lt-ltb, eq-eqb, ne_eqb}
 use lib.ListN.{length, get_or, set, length-append, length-set, get_or-eq_default}
 use lib.Seq.{get_or-set_same, get_or-set_other}
 use Rattle.pauli.specs.Pauli.{Pauli, of_bits, has_x, has_z}
@@ -54,19 +53,6 @@ no-bit xs j k h = ap (λ (v : ℕ). odd (v / 2 ^ k)) (get_or-eq_default xs 0 h) 
 
 pub inside : (q : ℕ) (xs zs : List ℕ) → q / 64 < length xs → q / 64 < length zs → within q xs zs ≡ true
 inside q xs zs hx hz = ap₂ ◌&&◌ (lt-ltb _ _ hx) (lt-ltb _ _ hz)
-
-pub outside-x : (q : ℕ) (xs zs : List ℕ) → length xs ≤ q / 64 → within q xs zs ≡ false
-outside-x q xs zs h = ap (λ (b : Bool). b && ltb (q / 64) (length zs)) (le-ltb _ _ h)
-
-pub outside-z : (q : ℕ) (xs zs : List ℕ) → q / 64 < length xs → length zs ≤ q / 64 → within q xs zs ≡ false
-outside-z q xs zs g h = ap₂ ◌&&◌ (lt-ltb _ _ g) (le-ltb _ _ h)
-
-pub set-nothing : (q : ℕ) (p : Pauli) (xs zs : List ℕ) → within q xs zs ≡ false → QubitSet q p xs zs xs zs
-set-nothing q p xs zs e = record { x-words = simp e; z-words = simp e }
-
-pub set-inside : (q : ℕ) (p : Pauli) (xs zs : List ℕ) (u v : ℕ) → within q xs zs ≡ true → u ≡ with_bit (get_or xs (q / 64) 0) (q % 64) (has_x p)
-    → v ≡ with_bit (get_or zs (q / 64) 0) (q % 64) (has_z p) → QubitSet q p xs zs (set xs (q / 64) u) (set zs (q / 64) v)
-set-inside q p xs zs u v e eu ev = record { x-words = simp e (ap (set xs (q / 64)) eu); z-words = simp e (ap (set zs (q / 64)) ev) }
 
 -- ---- bits after a bit was made b
 

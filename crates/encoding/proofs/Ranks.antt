@@ -12,10 +12,11 @@ use lib.Dec.{eqb, leb, ltb}
 use lib.ListN.{length, get_or}
 use Rattle.pauli.specs.Lists.{every}
 use Rattle.pauli.proofs.Bools.{and_left, and_right}
-use Rattle.encoding.specs.Refusals.{least, done_or}
-use Rattle.encoding.specs.declared.Answer.TheVariants.{Refused}
+use Rattle.encoding.specs.Refusals.{least, smaller, answer_or, done_or}
+use Rattle.encoding.specs.declared.Refusal.{Refusal}
+use Rattle.std.specs.Prelude.{Result, Err}
 use Rattle.encoding.specs.Ranks.{TableLine, line, by_rank, table, place_in, rank, placed, joined}
-use Rattle.encoding.proofs.Faults.{or_else}
+use Rattle.encoding.proofs.Faults.{or_else, refused-by, smaller-is}
 
 -- ---- given exactly when
 
@@ -50,12 +51,12 @@ module _ {A : Type 0} (refuse by : ℕ → A) (given : (k : ℕ) → refuse (suc
     λ g. ap by ((given-exactly ls k).1 g) ∙ sym (given k),
   )
 
-pub answer-refused : (ls : List TableLine) (k : ℕ) → (done_or (by_rank ls) ≡ Refused (suc k)) ↔ Given (suc k) ls
-answer-refused = given-iff Refused done_or (λ k. refl) only
+pub answer-refused : {A : Type 0} (v : A) (ls : List TableLine) (k : ℕ) → (answer_or (by_rank ls) v ≡ Err (record { 0 = suc k })) ↔ Given (suc k) ls
+unfolding answer_or
+answer-refused {A} v = given-iff (λ k. Err (record { 0 = k })) (λ f. answer_or f v) (λ k. refl) only
   where
-    only : (f k : ℕ) → done_or f ≡ Refused (suc k) → f ≡ suc k
-    only zero k e = let z : ◌≡◌ {A = ℕ} 0 1 = cc in absurd (omega arith)
-    only (suc f) k e = cc
+    only : (f k : ℕ) → answer_or f v ≡ Err (record { 0 = suc k }) → f ≡ suc k
+    only f k e = sym (refused-by f v (sym e)).0
 
 -- ---- no line holds. Numbers of the table are not 0, which a list of known numbers shows by `refl`
 
@@ -273,5 +274,6 @@ joined-fault ls us f =
     let b = given-one (λ b. eqb (least (by_rank ls) b) (earlier (by_rank ls) b)) us (and_left _ _ a) (and_right (eqb (least (by_rank ls) 0) (earlier (by_rank ls) 0)) _ a) in
     eqb-true _ _ b ∙ sym (joined-earlier ls us (and_left _ _ f) (and_left _ _ r))
 
-pub both-parts : {f a b : ℕ} (ls us : List TableLine) → Fitting ls us → a ≡ by_rank ls → b ≡ by_rank us → f ≡ least a b → f ≡ by_rank (joined ls us)
-both-parts ls us p ea eb ef = ef ∙ ap₂ least ea eb ∙ joined-fault ls us p
+pub both-parts : {f a b : Result Unit Refusal} (ls us : List TableLine) → Fitting ls us → a ≡ done_or (by_rank ls) → b ≡ done_or (by_rank us) → f ≡ smaller a b
+    → f ≡ done_or (by_rank (joined ls us))
+both-parts ls us p ea eb ef = ef ∙ ap₂ smaller ea eb ∙ smaller-is (by_rank ls) (by_rank us) ∙ ap done_or (joined-fault ls us p)

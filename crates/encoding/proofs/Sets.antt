@@ -1,10 +1,10 @@
 -- Whole row sets: what the tests tell of one, and that they pass a row set within the limits; two sets whose rows agree; the set that holds given rows.
 -- Assumes nothing.
 use mathlib.Core.Path.{◌≡◌, refl, sym, ap, ap₂, ◌∙◌, subst}
-use mathlib.Core.Bool.{Bool, false, cond, ◌||◌}
+use mathlib.Core.Bool.{Bool, true, false, cond, ◌||◌}
 use mathlib.Core.List.{List, ◌∷◌}
 use Prim.Native.Nat.{ℕ, zero, suc, ◌+◌, ◌*◌, ◌≤◌, ◌<◌, suc-le-suc}
-use native.Mathlib.Nat.{zero-lt-suc}
+use native.Mathlib.Nat.{suc-ne-zero, zero-lt-suc}
 use native.Mathlib.Omega.{arith}
 use borrow.Author.Tests.{le-ltb, ltb-false, leb-false, eq-eqb}
 use lib.ListN.{length, get_or, drop}
@@ -16,15 +16,17 @@ use Rattle.pauli.proofs.RowLaws.{same_bits}
 use Rattle.encoding.specs.Limits.{max_qubits, max_rows, words_of}
 use Rattle.encoding.specs.Words.{unpack, qubits, pack, lay_rows}
 use Rattle.encoding.specs.Set.{row, Mem, mem_of, count, phase_units, exponent_at, lay_exponents, rows_held, rows_of, list, lay_in, lay, Valid, Sound}
-use Rattle.encoding.specs.Refusals.{least, some, some_below, is_on, bad_bits, set_lines, out_lines, number_lines, too_large, read_lines, rows_lines, Readable}
+use Rattle.encoding.specs.Refusals.{done_or, least, some, some_below, is_on, many_qubits, many_rows, bad_bits, set_lines, out_lines, number_lines, too_large, read_lines, rows_lines}
+use Rattle.encoding.specs.declared.Refusal.{Refusal}
+use Rattle.std.specs.Prelude.{Result, Ok, IfOk}
 use Rattle.encoding.specs.Ranks.{by_rank, place_in}
 use Rattle.pauli.specs.Lists.{every}
 use Rattle.encoding.proofs.Padding.{of-only}
 use Rattle.encoding.proofs.Parts.{row-long, rows_ext, row-lay-list, length-lay-list}
 use Rattle.encoding.proofs.Reading.{length-qubits}
 use Rattle.encoding.proofs.Scan.{none_of, any-never}
-use Rattle.encoding.proofs.Faults.{set-lengths, least-none, not-large}
-use Rattle.encoding.proofs.Ranks.{none-holds, Fitting, joined-fault, both-parts}
+use Rattle.encoding.proofs.Faults.{done_none, if-ok, set-lengths, least-none, least-less, least_zero, not-large}
+use Rattle.encoding.proofs.Ranks.{none-holds, Fitting, joined-fault}
 use Rattle.encoding.proofs.Exponents.{laid-long, exponents-same, exponent_small, spare-passes, lay-alike}
 use Rattle.encoding.proofs.Memory.{mem-eq, Proper, clean, row_count, within-limits}
 
@@ -33,6 +35,10 @@ use Rattle.encoding.proofs.Memory.{mem-eq, Proper, clean, row_count, within-limi
 -- what the tests and their number tell
 pub sound-of : (n : ℕ) (M : Mem) {f : ℕ} → f ≡ by_rank (set_lines n M) → (f ≡ 0 → Valid n (words_of n) M) → f ≡ 0 → Sound n M
 sound-of n M e v z = let l = within-limits n M (sym e ∙ z) in record { valid = v z; few-qubits = l.0; few-rows = l.1 }
+
+-- a set that is not refused
+pub sound-when : (n : ℕ) (M : Mem) {a : Result Unit Refusal} → a ≡ done_or (by_rank (set_lines n M)) → IfOk a (λ _. Valid n (words_of n) M) → a ≡ Ok tt → Sound n M
+sound-when n M e v z = sound-of n M refl (λ _. if-ok _ z v) (done_none _ (sym e ∙ z))
 
 -- what a set that is passed holds, whatever its words
 pub read-proper : (n : ℕ) (M : Mem) → by_rank (set_lines n M) ≡ 0 → Proper n (count M) (rows_of n M)
@@ -76,15 +82,31 @@ read_none n M large e =
     let p = least-none (by_rank (set_lines n M)) (by_rank (number_lines large)) (joined-fault (set_lines n M) (number_lines large) (set-number n M large) ∙ e) in
     (p.0, not-large 5 large (number_is large ∙ p.1))
 
--- the number, and what it tells
-module _ (n : ℕ) (M : Mem) (large : Bool) {f a b : ℕ} (ea : a ≡ by_rank (set_lines n M)) (eb : b ≡ cond large 6 0) (ef : f ≡ least a b) where
-  pub read_told : (a ≡ 0 → Valid n (words_of n) M) → (f ≡ by_rank (read_lines n M large)) × (f ≡ 0 → Readable n M large)
-  read_told v = (
-    both-parts (set_lines n M) (number_lines large) (set-number n M large) ea (eb ∙ number_is large) ef,
-    λ z.
-        let p = least-none a b (sym ef ∙ z) in
-        record { ready = sound-of n M ea v p.0; small = not-large 5 large (sym eb ∙ p.1) },
-  )
+-- a set's number is the call's; where the set has none, the test of the numbers is
+module _ (n : ℕ) (M : Mem) (large : Bool) where
+  both : by_rank (read_lines n M large) ≡ least (by_rank (set_lines n M)) (cond large 6 0)
+  both = sym (joined-fault (set_lines n M) (number_lines large) (set-number n M large)) ∙ ap (least (by_rank (set_lines n M))) (sym (number_is large))
+
+  -- 6 is above the numbers of a set
+  below-six : (a b c d e : Bool) → cond a 1 (cond b 2 (cond c 3 (cond d 4 (cond e 5 0)))) < 6
+  below-six true b c d e = omega arith
+  below-six false true c d e = omega arith
+  below-six false false true d e = omega arith
+  below-six false false false true e = omega arith
+  below-six false false false false true = omega arith
+  below-six false false false false false = omega arith
+
+  pub read-set : (by_rank (set_lines n M) ≡ 0 → ⊥) → by_rank (set_lines n M) ≡ by_rank (read_lines n M large)
+  unfolding by_rank
+  read-set h = go (by_rank (set_lines n M)) large h (below-six (many_qubits n) (many_rows (count M)) _ _ _) ∙ sym both
+    where
+      go : (k : ℕ) (b : Bool) → (k ≡ 0 → ⊥) → k < 6 → k ≡ least k (cond b 6 0)
+      go k true h l = least-less k 6 h (λ z. suc-ne-zero 5 z) l
+      go k false h l = sym (least_zero k)
+
+  pub read_told : by_rank (set_lines n M) ≡ 0 → cond large 6 0 ≡ by_rank (read_lines n M large)
+  unfolding least
+  read_told z = sym (both ∙ ap (λ (k : ℕ). least k (cond large 6 0)) z)
 
 pub read-passes : (n : ℕ) (M : Mem) → Sound n M → (large : Bool) → large ≡ false → by_rank (read_lines n M large) ≡ 0
 unfolding least

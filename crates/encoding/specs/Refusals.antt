@@ -1,20 +1,25 @@
 -- RULES 9, "Refusals": the lines of the table for row sets, states and numbers; those of orders, lists, logs and terms stand beside the calls that take
 -- them. And what a refusal comes to. Assumes nothing.
-use Rattle.std.specs.Prelude.{◌≡◌, Bool, false, cond, not, ◌||◌, List, [], ◌∷◌, ℕ, zero, suc, ◌*◌, ◌/◌, ◌%◌, ◌^◌, eqb, leb, ltb, length, get_or, drop}
+use Rattle.std.specs.Prelude.{◌≡◌, Bool, false, cond, not, ◌||◌, List, [], ◌∷◌, ℕ, zero, suc, ◌*◌, ◌/◌, ◌%◌, ◌^◌, eqb, leb, ltb, length, get_or, drop, Result, Ok, Err}
 unfoldable pub use Rattle.pauli.specs.Lists.{some, some_below}
 use Rattle.pauli.specs.Pauli.{Pauli, has_x, has_z}
 use Rattle.encoding.specs.Limits.{max_qubits, max_rows, words_of}
 use Rattle.encoding.specs.Words.{unpack, unbits}
 use Rattle.encoding.specs.Set.{row, Mem, count, phase_units, Sound}
 use Rattle.encoding.specs.Ranks.{TableLine, line, joined}
-use Rattle.encoding.specs.declared.Answer.{Answer}
-use Rattle.encoding.specs.declared.Answer.TheVariants.{Done, Refused}
+use Rattle.encoding.specs.declared.Refusal.{Refusal}
 
 -- the smaller of two numbers of the table
 unfoldable pub least : ℕ → ℕ → ℕ
 least zero b = b
 least (suc a) zero = suc a
 least (suc a) (suc b) = cond (ltb (suc a) (suc b)) (suc a) (suc b)
+
+-- the same of two parts of a call, each refused or not
+abbrev pub smaller : Result Unit Refusal → Result Unit Refusal → Result Unit Refusal
+smaller (Ok a) b = b
+smaller (Err l) (Ok b) = Err l
+smaller (Err l) (Err r) = Err (cond (ltb l.0 r.0) l r)
 
 -- ---- the tests of a row set
 
@@ -90,10 +95,14 @@ pub record Readable (n : ℕ) (M : Mem) (large : Bool) : Type 0 where
 
 -- ---- what a refusal comes to
 
+-- what a call answers: the refusal, or the value where none fits
+unfoldable pub answer_or : {A : Type 0} → ℕ → A → Result A Refusal
+answer_or zero v = Ok v
+answer_or (suc k) v = Err (record { 0 = suc k })
+
 -- the answer of a call that changes its buffers
-abbrev pub done_or : ℕ → Answer
-done_or zero = Done
-done_or (suc k) = Refused (suc k)
+abbrev pub done_or : ℕ → Result Unit Refusal
+done_or f = answer_or f tt
 
 -- a refusal leaves what was there
 abbrev pub left_or : {A : Type 0} → ℕ → A → A → A

@@ -4,6 +4,7 @@ use Rattle.std.specs.Prelude.{◌≡◌, Bool, cond, ◌&&◌, List, [], ◌∷�
 use Rattle.pauli.specs.Pauli.{Pauli, has_x, has_z}
 use Rattle.pauli.specs.Row.{Row}
 use Rattle.encoding.specs.Limits.{max_qubits, max_rows, words_of}
+use Rattle.encoding.specs.declared.RowSet.{RowSet}
 use Rattle.encoding.specs.Words.{unbits, qubits, with_bit, pack, lay_rows}
 
 -- the words from a up to, not including, e
@@ -23,6 +24,10 @@ pub record Mem : Type 0 where
 
 abbrev pub mem_of : ℕ → List ℕ → List ℕ → List ℕ → Mem
 mem_of m xs zs es = record { m = m; xs = xs; zs = zs; es = es }
+
+-- a set that is lent to be read
+abbrev pub set_of : RowSet → Mem
+set_of s = mem_of s.m s.x.now s.z.now s.phases.now
 
 -- the number of rows
 abbrev pub count : Mem → ℕ

@@ -19,15 +19,13 @@ use Rattle.encoding.proofs.Faults.{or_else}
 use Rattle.encoding.proofs.Ranks.{rank-append}
 use Rattle.encoding.proofs.Scan.{some-never}
 use Rattle.mat_elem.specs.Terms.{max_terms, term_lines, in_block, has_a_block}
-use Rattle.mat_elem.specs.Sums.{sum_over, step_if}
+use Rattle.mat_elem.specs.Sums.{Element, sum_over, step_if}
 use Rattle.mat_elem.proofs.Faults.{sound}
 use Rattle.mat_elem.specs.float.Sums as F
 use Rattle.mat_elem.specs.float.Product.{MatElem as FloatMatElem}
-use Rattle.mat_elem.specs.declared.float.Element.{Element as FloatElement}
 use Rattle.mat_elem.proofs.float.Block.{number_is}
 use Rattle.mat_elem.specs.whole.Sums as W
 use Rattle.mat_elem.specs.Workers.{part_max}
-use Rattle.mat_elem.specs.declared.whole.Element.{Element as WholeElement}
 use Rattle.exact.specs.Whole.{size_at, size_to, exact_max, WholeBlock}
 use Rattle.exact.specs.Claims.{SameParts, Same, sums, none, refused}
 use Rattle.exact.proofs.Reading.{reads-finite}
@@ -67,10 +65,10 @@ module _ (n : ℕ) (xs zs : List ℕ) (fr fi : List Float) (re im : List ℤ) (b
   tests = term_lines n xs zs (length fr) (length fi) bra ket
 
   -- the answers of the two calls, by the number of the lines 1 to 10 and whether there is a block
-  abbrev float_answer : ℕ → Bool → FloatElement
+  abbrev float_answer : ℕ → Bool → Element Float
   float_answer k b = F.element k b (F.sum_to xs zs fr fi t ket (length xs))
 
-  abbrev whole_answer : ℕ → Bool → WholeElement
+  abbrev whole_answer : ℕ → Bool → Element ℤ
   whole_answer k b = W.element k b (W.block_sum xs zs re im t ket)
 
   plain : F.wild fr fi ≡ false
@@ -94,7 +92,7 @@ module _ (n : ℕ) (xs zs : List ℕ) (fr fi : List Float) (re im : List ℤ) (b
       most m h = omega arith
 
   -- request 12 for i32 parts
-  pub editions : (r : FloatElement) (s : WholeElement) → FloatMatElem n xs zs fr fi bra ket r → W.MatElem n xs zs re im bra ket s → Same r s
+  pub editions : (r : Element Float) (s : Element ℤ) → FloatMatElem n xs zs fr fi bra ket r → W.MatElem n xs zs re im bra ket s → Same r s
   unfolding F.element_of W.element_of
   editions r s c d = rw (c.answer, d.answer, pr.long, pi.long) (go (by_rank tests) refl)
     where

@@ -17,23 +17,21 @@ use Rattle.encoding.specs.Ranks.{line, by_rank}
 use Rattle.encoding.proofs.Faults.{or_else}
 use Rattle.encoding.proofs.Ranks.{rank-append}
 use Rattle.mat_elem.specs.Terms.{term_lines, in_block, has_a_block}
-use Rattle.mat_elem.specs.Sums.{exponent_of, sum_over, step_if}
+use Rattle.mat_elem.specs.Sums.{Element, Refused, exponent_of, sum_over, step_if}
 use Rattle.mat_elem.proofs.SumLaws.{sum-empty}
 use Rattle.mat_elem.specs.float.Sums as F
 use Rattle.mat_elem.specs.float.Product.{MatElem}
-use Rattle.mat_elem.specs.declared.float.Complex.{Complex as FloatComplex}
-use Rattle.mat_elem.specs.declared.float.Element.{Element}
-use Rattle.mat_elem.specs.declared.float.Element.TheVariants.{Refused}
-use Rattle.mat_elem.proofs.float.Block.{bad}
+use Rattle.mat_elem.specs.Numbers.{floats}
+use Rattle.mat_elem.proofs.Span.{bad}
 use Rattle.mat_elem.specs.whole.Sums as W
-use Rattle.mat_elem.specs.declared.whole.Complex.{Complex as WholeComplex}
-use Rattle.mat_elem.proofs.whole.Size.{nat_abs-neg, nat_abs-add}
+use Rattle.checked.specs.declared.Complex.{Complex}
+use Rattle.mat_elem.specs.whole.Laws.{nat_abs-neg, nat_abs-add}
 use Rattle.exact.specs.Whole.{Reads, whole, size_at, size_to, exact_max, WholeBlock}
 use Rattle.exact.specs.Claims.{ReadsAs, ExactTo}
 use Rattle.exact.proofs.Reading.{reads-finite, reads-neg, reads-add}
 
 -- a float sum is the whole-number sum w, neither part of which is larger than S
-pub record Exactly (c : FloatComplex) (w : WholeComplex) (S : ℕ) : Type 0 where
+pub record Exactly (c : Complex Float) (w : Complex ℤ) (S : ℕ) : Type 0 where
   pub re-reads : Reads c.re w.re
   pub im-reads : Reads c.im w.im
   pub re-le : nat_abs w.re ≤ S
@@ -44,25 +42,25 @@ both true true p q = refl
 both false b p q = elim p [ ]
 both true false p q = elim q [ ]
 
-finite-sum : (c : FloatComplex) (w : WholeComplex) (S : ℕ) → Exactly c w S → bad c ≡ false
+finite-sum : (c : Complex Float) (w : Complex ℤ) (S : ℕ) → Exactly c w S → bad floats c ≡ false
 finite-sum c w S g = ap not (both (finite c.re) (finite c.im) (reads-finite _ _ g.re-reads) (reads-finite _ _ g.im-reads))
 
 -- a coefficient turned is read as the whole number turned, and neither part outgrows both together
-turned-reads : (k : ℕ) (c : FloatComplex) (w : WholeComplex) → Reads c.re w.re → Reads c.im w.im
+turned-reads : (k : ℕ) (c : Complex Float) (w : Complex ℤ) → Reads c.re w.re → Reads c.im w.im
     → Reads (F.turned_by k c).re (W.turned_by k w).re × Reads (F.turned_by k c).im (W.turned_by k w).im
 turned-reads zero c w r i = (r, i)
 turned-reads (suc zero) c w r i = (reads-neg c.im w.im i, r)
 turned-reads (suc (suc zero)) c w r i = (reads-neg c.re w.re r, reads-neg c.im w.im i)
 turned-reads (suc (suc (suc k))) c w r i = (i, reads-neg c.re w.re r)
 
-turned-size : (k q : ℕ) (w : WholeComplex) → nat_abs w.re ≤ q → nat_abs w.im ≤ q → (nat_abs (W.turned_by k w).re ≤ q) × (nat_abs (W.turned_by k w).im ≤ q)
+turned-size : (k q : ℕ) (w : Complex ℤ) → nat_abs w.re ≤ q → nat_abs w.im ≤ q → (nat_abs (W.turned_by k w).re ≤ q) × (nat_abs (W.turned_by k w).im ≤ q)
 turned-size zero q w r i = (r, i)
 turned-size (suc zero) q w r i = (omega (arith, nat_abs-neg w.im), r)
 turned-size (suc (suc zero)) q w r i = (omega (arith, nat_abs-neg w.re), omega (arith, nat_abs-neg w.im))
 turned-size (suc (suc (suc k))) q w r i = (i, omega (arith, nat_abs-neg w.re))
 
 -- one term more, of a size of at most q
-one_more : (c d : FloatComplex) (v w : WholeComplex) (S q : ℕ) → Exactly c v S → Exactly d w q → S + q ≤ exact_max → Exactly (F.plus c d) (W.plus v w) (S + q)
+one_more : (c d : Complex Float) (v w : Complex ℤ) (S q : ℕ) → Exactly c v S → Exactly d w q → S + q ≤ exact_max → Exactly (F.plus c d) (W.plus v w) (S + q)
 one_more c d v w S q g t h =
     let re = joined (nat_abs v.re) (nat_abs w.re) g.re-le t.re-le in
     let im = joined (nat_abs v.im) (nat_abs w.im) g.im-le t.im-le in
@@ -77,10 +75,10 @@ one_more c d v w S q g t h =
     joined x y l k = omega arith
 
 module _ (xs zs : List ℕ) (fr fi : List Float) (re im : List ℤ) (t ket : ℕ) where
-  abbrev float_to : ℕ → FloatComplex
+  abbrev float_to : ℕ → Complex Float
   float_to n = F.sum_to xs zs fr fi t ket n
 
-  abbrev whole_to : ℕ → WholeComplex
+  abbrev whole_to : ℕ → Complex ℤ
   whole_to n = sum_over (in_block xs t) W.plus (W.complex (pos 0) (pos 0)) (W.term_at xs zs re im ket) n
 
   term-exactly : (k : ℕ) → Reads (get_or fr k nan) (get_or re k (pos 0)) → Reads (get_or fi k nan) (get_or im k (pos 0))
@@ -95,7 +93,7 @@ module _ (xs zs : List ℕ) (fr fi : List Float) (re im : List ℤ) (t ket : ℕ
   -- after n terms, none of whose partial sums is refused
   pub record After (n : ℕ) : Type 0 where
     pub exactly : Exactly (float_to n) (whole_to n) (size_to xs re im t n)
-    pub fine : some_below (suc n) (λ k. bad (float_to k)) ≡ false
+    pub fine : some_below (suc n) (λ k. bad floats (float_to k)) ≡ false
 
   module _ (hr : (k : ℕ) → k < length xs → in_block xs t k ≡ true → Reads (get_or fr k nan) (get_or re k (pos 0)))
       (hi : (k : ℕ) → k < length xs → in_block xs t k ≡ true → Reads (get_or fi k nan) (get_or im k (pos 0))) where
@@ -117,8 +115,8 @@ module _ (xs zs : List ℕ) (fr fi : List Float) (re im : List ℤ) (t ket : ℕ
 
         go : (S ≤ exact_max → After n) → (at : Bool) → in_block xs t n ≡ at → step_if at (λ (s : ℕ). s + size_at re im n) S ≤ exact_max
             → After n
-            × Exactly (step_if at (λ (s : FloatComplex). F.plus s (F.term_at xs zs fr fi ket n)) (float_to n))
-            (step_if at (λ (s : WholeComplex). W.plus s (W.term_at xs zs re im ket n)) (whole_to n))
+            × Exactly (step_if at (λ (s : Complex Float). F.plus s (F.term_at xs zs fr fi ket n)) (float_to n))
+            (step_if at (λ (s : Complex ℤ). W.plus s (W.term_at xs zs re im ket n)) (whole_to n))
             (step_if at (λ (s : ℕ). s + size_at re im n) S)
         go ih false e m = (ih m, (ih m).exactly)
         go ih true e m =
@@ -131,10 +129,10 @@ module _ (n : ℕ) (xs zs : List ℕ) (fr fi : List Float) (re im : List ℤ) (b
     abbrev t : ℕ
     t = bit_xor bra ket
 
-    abbrev float_sum : FloatComplex
+    abbrev float_sum : Complex Float
     float_sum = F.sum_to xs zs fr fi t ket (length xs)
 
-    abbrev whole_sum : WholeComplex
+    abbrev whole_sum : Complex ℤ
     whole_sum = W.block_sum xs zs re im t ket
 
     last : After xs zs fr fi re im t ket (length xs)
@@ -161,7 +159,7 @@ exact n xs zs fr fi re im bra ket r c w =
     rw (c.answer, not-refused n xs zs fr fi re im bra ket w) (reads_as n xs zs fr fi re im bra ket w (has_a_block xs (bit_xor bra ket)) refl)
 
 -- so it gives no refusal, 12 or any other
-pub never-refused : (n : ℕ) (xs zs : List ℕ) (fr fi : List Float) (re im : List ℤ) (bra ket : ℕ) (r : Element) → MatElem n xs zs fr fi bra ket r
+pub never-refused : (n : ℕ) (xs zs : List ℕ) (fr fi : List Float) (re im : List ℤ) (bra ket : ℕ) (r : Element Float) → MatElem n xs zs fr fi bra ket r
     → WholeBlock exact_max n xs zs fr fi re im bra ket → (k : ℕ) → r ≡ Refused k → ⊥
 never-refused n xs zs fr fi re im bra ket r c w k e =
-    subst (λ (x : Element). ReadsAs x (W.block_sum xs zs re im (bit_xor bra ket) ket)) e (exact n xs zs fr fi re im bra ket r c w)
+    subst (λ (x : Element Float). ReadsAs x (W.block_sum xs zs re im (bit_xor bra ket) ket)) e (exact n xs zs fr fi re im bra ket r c w)

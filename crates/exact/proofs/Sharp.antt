@@ -13,9 +13,8 @@ use Rattle.encoding.specs.Refusals.{some, some_below}
 use Rattle.encoding.specs.Ranks.{by_rank}
 use Rattle.encoding.specs.Words.{word, bits}
 use Rattle.mat_elem.specs.Terms.{falls_after}
-use Rattle.mat_elem.specs.Sums.{sum_over}
+use Rattle.mat_elem.specs.Sums.{Sum, sum_over}
 use Rattle.mat_elem.specs.float.Sums.{overflows, element_of, plus_zero}
-use Rattle.mat_elem.specs.declared.float.Element.TheVariants.{Sum}
 use Rattle.mat_elem.proofs.float.Meaning.{AllF64, mat-elem}
 use Rattle.mat_elem.specs.whole.Sums.{complex, block_sum}
 use Rattle.exact.specs.Whole.{Reads, whole, size_to, exact_max, WholeBlock}

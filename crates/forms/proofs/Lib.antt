@@ -1,5 +1,5 @@
 pub mod Kit
 pub mod Octets
 pub mod Pairs
-pub mod Reading
 pub mod Texts
+pub mod Reading

@@ -1,45 +1,25 @@
 -- The answers of docs/CALLS.md as bytes.
-use Rattle.std.specs.Prelude.{cond, List, [], ◌∷◌, ◌++◌, ℕ, ◌*◌, take, ℤ, Float}
+use Rattle.std.specs.Prelude.{cond, List, [], ◌∷◌, ◌++◌, ℕ, ◌*◌, take, ℤ, Float, Bool, Option, Some, None, Result, Ok, Err}
 use Prim.Native.Char.{code}
 use Prim.Native.String as str
 use Rattle.pauli.specs.declared.PauliMatrix.{PauliMatrix}
 use Rattle.pauli.specs.declared.PauliMatrix.TheVariants.{I, X, Y, Z}
-use Rattle.encoding.specs.declared.Answer.{Answer}
-use Rattle.encoding.specs.declared.Answer.TheVariants as answer
-use Rattle.cmpnt_list.specs.declared.Got.{Got}
-use Rattle.cmpnt_list.specs.declared.Got.TheVariants as got
-use Rattle.cmpnt_list.specs.declared.Tally.{Tally}
-use Rattle.cmpnt_list.specs.declared.Tally.TheVariants as tally
-use Rattle.cmpnt_list.specs.declared.Phase.{Phase}
-use Rattle.cmpnt_list.specs.declared.Phase.TheVariants as phase
-use Rattle.cmpnt_list.specs.declared.Truth.{Truth}
-use Rattle.cmpnt_list.specs.declared.Truth.TheVariants as truth
-use Rattle.terms.specs.declared.Clashes.{Clashes}
-use Rattle.terms.specs.declared.Clashes.TheVariants as clash
-use Rattle.terms.specs.declared.Canonicalized.{Canonicalized}
-use Rattle.terms.specs.declared.Canonicalized.TheVariants as reduced
+use Rattle.pauli.specs.declared.ComplexSign.{ComplexSign}
+use Rattle.encoding.specs.declared.Refusal.{Refusal}
+use Rattle.checked.specs.declared.Complex.{Complex}
+use Rattle.terms.specs.Calls.{ReductionAnswer}
+use Rattle.terms.specs.declared.Stopped.TheVariants.{Full, Refused}
 use Rattle.replay.specs.declared.Verdict.{Verdict}
 use Rattle.replay.specs.declared.Verdict.TheVariants as verdict
-use Rattle.replay.specs.declared.Undone.{Undone}
-use Rattle.replay.specs.declared.Undone.TheVariants as undone
-use Rattle.row_text.specs.declared.Written.{Written}
-use Rattle.row_text.specs.declared.Written.TheVariants as written
-use Rattle.pwl.specs.declared.Written as file_written
-use Rattle.pwl.specs.declared.Written.TheVariants as file
-use Rattle.mat_elem.specs.declared.whole.Element as whole_element
-use Rattle.mat_elem.specs.declared.whole.Element.TheVariants as whole
-use Rattle.mat_elem.specs.declared.float.Element as float_element
-use Rattle.mat_elem.specs.declared.float.Element.TheVariants as float
-use Rattle.mat_elem.specs.declared.states.Total as states_total
-use Rattle.mat_elem.specs.declared.states.Total.TheVariants as total
+use Rattle.replay.specs.declared.NotUndone.{NotUndone}
+use Rattle.replay.specs.declared.NotUndone.TheVariants as undone
 use Rattle.text.specs.Numbers.{numeral, digits, integral, pattern}
 use Rattle.text.specs.Lists.{listed}
-use Rattle.text.specs.Workers.{Adds}
-use Rattle.text.specs.declared.write.Put.{Put}
+use Rattle.text.specs.Readers.{Added}
 
--- the text w is added behind what was written before, where that fitted
-abbrev pub Says : List ℕ → List ℕ → Put → List ℕ → Put → Type 0
-Says w o r p q = Adds w o r.ok r.at p q.ok q.at
+-- the text w is added behind what was written before
+abbrev pub Says : List ℕ → List ℕ → ℕ → List ℕ → Option ℕ → Type 0
+Says w o at p r = Added w o at p r
 
 -- ---- fields, each behind a space
 
@@ -101,32 +81,32 @@ letter_of Z = 90
 unfoldable pub ok_letter : PauliMatrix → List ℕ
 ok_letter l = letters "ok " ++ ((letter_of l ∷ []) ++ end)
 
-abbrev pub got_line : Got → List ℕ
-got_line (got.Is l) = ok_letter l
-got_line (got.Refused k) = refuse k
+abbrev pub got_line : Result PauliMatrix Refusal → List ℕ
+got_line (Ok l) = ok_letter l
+got_line (Err k) = refuse k.0
 
-abbrev pub phase_line : Phase → List ℕ
-phase_line (phase.Exponent e) = ok_number e.0
-phase_line (phase.Refused k) = refuse k
+abbrev pub phase_line : Result ComplexSign Refusal → List ℕ
+phase_line (Ok e) = ok_number e.0
+phase_line (Err k) = refuse k.0
 
-abbrev pub truth_line : Truth → List ℕ
-truth_line (truth.Is b) = ok_number (cond b 1 0)
-truth_line (truth.Refused k) = refuse k
+abbrev pub truth_line : Result Bool Refusal → List ℕ
+truth_line (Ok b) = ok_number (cond b 1 0)
+truth_line (Err k) = refuse k.0
 
 -- ---- counts
 
 -- a call refuses all four counts or none
-abbrev pub tally_text : Tally → List ℕ
-tally_text (tally.Number k) = number_text k
-tally_text (tally.Refused k) = []
+abbrev pub tally_text : Result ℕ Refusal → List ℕ
+tally_text (Ok k) = number_text k
+tally_text (Err k) = []
 
 -- ok i x y z
-unfoldable pub ok_counts : ℕ → Tally → Tally → Tally → List ℕ
+unfoldable pub ok_counts : ℕ → Result ℕ Refusal → Result ℕ Refusal → Result ℕ Refusal → List ℕ
 ok_counts i x y z = letters "ok" ++ (number_text i ++ (tally_text x ++ (tally_text y ++ (tally_text z ++ end))))
 
-abbrev pub count_line : Tally → Tally → Tally → Tally → List ℕ
-count_line (tally.Number i) x y z = ok_counts i x y z
-count_line (tally.Refused k) x y z = refuse k
+abbrev pub count_line : Result ℕ Refusal → Result ℕ Refusal → Result ℕ Refusal → Result ℕ Refusal → List ℕ
+count_line (Ok i) x y z = ok_counts i x y z
+count_line (Err k) x y z = refuse k.0
 
 -- ---- what was lent to be changed
 
@@ -134,41 +114,41 @@ count_line (tally.Refused k) x y z = refuse k
 unfoldable pub ok_set : List ℕ → List ℕ → List ℕ → List ℕ
 ok_set x z p = letters "ok" ++ (set_text x z p ++ end)
 
-abbrev pub changed_line : Answer → List ℕ → List ℕ → List ℕ → List ℕ
-changed_line answer.Done x z p = ok_set x z p
-changed_line (answer.Refused k) x z p = refuse k
+abbrev pub changed_line : Result Unit Refusal → List ℕ → List ℕ → List ℕ → List ℕ
+changed_line (Ok u) x z p = ok_set x z p
+changed_line (Err k) x z p = refuse k.0
 
 -- ok X Z P c
 unfoldable pub ok_product : ℕ → List ℕ → List ℕ → List ℕ → List ℕ
 ok_product c x z p = letters "ok" ++ (set_text x z p ++ (number_text c ++ end))
 
-abbrev pub product_line : Clashes → List ℕ → List ℕ → List ℕ → List ℕ
-product_line (clash.Number c) x z p = ok_product c x z p
-product_line (clash.Refused k) x z p = refuse k
+abbrev pub product_line : Result ℕ Refusal → List ℕ → List ℕ → List ℕ → List ℕ
+product_line (Ok c) x z p = ok_product c x z p
+product_line (Err k) x z p = refuse k.0
 
 -- ok X Z P counts
 unfoldable pub ok_pairs : List ℕ → List ℕ → List ℕ → List ℕ → List ℕ
 ok_pairs x z p c = letters "ok" ++ (set_text x z p ++ (numbers_text c ++ end))
 
-abbrev pub pair_line : Answer → List ℕ → List ℕ → List ℕ → List ℕ → List ℕ
-pair_line answer.Done x z p c = ok_pairs x z p c
-pair_line (answer.Refused k) x z p c = refuse k
+abbrev pub pair_line : Result Unit Refusal → List ℕ → List ℕ → List ℕ → List ℕ → List ℕ
+pair_line (Ok u) x z p c = ok_pairs x z p c
+pair_line (Err k) x z p c = refuse k.0
 
 -- ok e S
 unfoldable pub ok_acted : ℕ → List ℕ → List ℕ
 ok_acted e s = letters "ok" ++ (number_text e ++ (words_text s ++ end))
 
-abbrev pub act_line : Phase → List ℕ → List ℕ
-act_line (phase.Exponent e) s = ok_acted e.0 s
-act_line (phase.Refused k) s = refuse k
+abbrev pub act_line : Result ComplexSign Refusal → List ℕ → List ℕ
+act_line (Ok e) s = ok_acted e.0 s
+act_line (Err k) s = refuse k.0
 
 -- ok words
 unfoldable pub ok_matrix : List ℕ → List ℕ
 ok_matrix m = letters "ok" ++ (words_text m ++ end)
 
-abbrev pub matrix_line : Answer → List ℕ → List ℕ
-matrix_line answer.Done m = ok_matrix m
-matrix_line (answer.Refused k) m = refuse k
+abbrev pub matrix_line : Result Unit Refusal → List ℕ → List ℕ
+matrix_line (Ok u) m = ok_matrix m
+matrix_line (Err k) m = refuse k.0
 
 -- ---- the text of a row
 
@@ -181,9 +161,9 @@ text_field (c ∷ t) = (32 ∷ []) ++ (c ∷ t)
 unfoldable pub ok_text : ℕ → List ℕ → List ℕ
 ok_text n b = letters "ok" ++ (number_text n ++ (text_field (take n b) ++ end))
 
-abbrev pub written_line : Written → List ℕ → List ℕ
-written_line (written.Length n) b = ok_text n b
-written_line (written.Refused k) b = refuse k
+abbrev pub written_line : Result ℕ Refusal → List ℕ → List ℕ
+written_line (Ok n) b = ok_text n b
+written_line (Err k) b = refuse k.0
 
 -- ---- reductions
 
@@ -212,10 +192,10 @@ ok_reduced n t units x z p = letters "ok" ++ (number_text n ++ (number_text t ++
 unfoldable pub full_log : ℕ → List ℕ → List ℕ → List ℕ → List ℕ → List ℕ
 full_log n units x z p = letters "refuse 8" ++ (number_text n ++ standing n units x z p)
 
-abbrev pub reduce_line : Canonicalized → List ℕ → List ℕ → List ℕ → List ℕ → List ℕ
-reduce_line (reduced.Done n t) units x z p = ok_reduced n t units x z p
-reduce_line (reduced.Full n) units x z p = full_log n units x z p
-reduce_line (reduced.Refused k) units x z p = refuse k
+abbrev pub reduce_line : ReductionAnswer → List ℕ → List ℕ → List ℕ → List ℕ → List ℕ
+reduce_line (Ok c) units x z p = ok_reduced c.entries c.t units x z p
+reduce_line (Err (Full n)) units x z p = full_log n units x z p
+reduce_line (Err (Refused k)) units x z p = refuse k.0
 
 -- ---- check, and undo
 
@@ -226,17 +206,17 @@ verdict_at name k x z p = name ++ (number_text k ++ (set_text x z p ++ end))
 unfoldable pub verdict_plain : List ℕ → List ℕ → List ℕ → List ℕ → List ℕ
 verdict_plain name x z p = name ++ (set_text x z p ++ end)
 
-abbrev pub check_line : Verdict → List ℕ → List ℕ → List ℕ → List ℕ
-check_line (verdict.BadEntry k) x z p = verdict_at (letters "ok bad") k x z p
-check_line (verdict.Differs r) x z p = verdict_at (letters "ok differs") r x z p
-check_line verdict.NotReduced x z p = verdict_plain (letters "ok notreduced") x z p
-check_line verdict.Yes x z p = verdict_plain (letters "ok yes") x z p
-check_line (verdict.Refused k) x z p = refuse k
+abbrev pub check_line : Result Verdict Refusal → List ℕ → List ℕ → List ℕ → List ℕ
+check_line (Ok (verdict.BadEntry k)) x z p = verdict_at (letters "ok bad") k x z p
+check_line (Ok (verdict.Differs r)) x z p = verdict_at (letters "ok differs") r x z p
+check_line (Ok verdict.NotReduced) x z p = verdict_plain (letters "ok notreduced") x z p
+check_line (Ok verdict.Yes) x z p = verdict_plain (letters "ok yes") x z p
+check_line (Err k) x z p = refuse k.0
 
-abbrev pub undo_line : Undone → List ℕ → List ℕ → List ℕ → List ℕ
-undo_line (undone.BadEntry k) x z p = verdict_at (letters "ok bad") k x z p
-undo_line undone.Done x z p = verdict_plain (letters "ok done") x z p
-undo_line (undone.Refused k) x z p = refuse k
+abbrev pub undo_line : Result Unit NotUndone → List ℕ → List ℕ → List ℕ → List ℕ
+undo_line (Err (undone.BadEntry k)) x z p = verdict_at (letters "ok bad") k x z p
+undo_line (Ok u) x z p = verdict_plain (letters "ok done") x z p
+undo_line (Err (undone.Refused k)) x z p = refuse k.0
 
 -- ---- log files
 
@@ -249,9 +229,9 @@ octets_text (v ∷ l) = digits 16 2 v ++ octets_text l
 unfoldable pub ok_file : ℕ → List ℕ → List ℕ
 ok_file n b = letters "ok " ++ (octets_text (take n b) ++ end)
 
-abbrev pub file_line : file_written.Written → List ℕ → List ℕ
-file_line (file.Length n) b = ok_file n b
-file_line (file.Refused k) b = refuse k
+abbrev pub file_line : Result ℕ Refusal → List ℕ → List ℕ
+file_line (Ok n) b = ok_file n b
+file_line (Err k) b = refuse k.0
 
 -- ---- matrix elements
 
@@ -265,16 +245,16 @@ ok_float re im = letters "ok" ++ (float_text re ++ (float_text im ++ end))
 abbrev pub none_line : List ℕ
 none_line = letters "none\n"
 
-abbrev pub whole_line : whole_element.Element → List ℕ
-whole_line (whole.Sum re im) = ok_whole re im
-whole_line whole.NoBlock = none_line
-whole_line (whole.Refused k) = refuse k
+abbrev pub whole_line : Result (Option (Complex ℤ)) Refusal → List ℕ
+whole_line (Ok (Some c)) = ok_whole c.re c.im
+whole_line (Ok None) = none_line
+whole_line (Err k) = refuse k.0
 
-abbrev pub float_line : float_element.Element → List ℕ
-float_line (float.Sum re im) = ok_float re im
-float_line float.NoBlock = none_line
-float_line (float.Refused k) = refuse k
+abbrev pub float_line : Result (Option (Complex Float)) Refusal → List ℕ
+float_line (Ok (Some c)) = ok_float c.re c.im
+float_line (Ok None) = none_line
+float_line (Err k) = refuse k.0
 
-abbrev pub total_line : states_total.Total → List ℕ
-total_line (total.Sum re im) = ok_whole re im
-total_line (total.Refused k) = refuse k
+abbrev pub total_line : Result (Complex ℤ) Refusal → List ℕ
+total_line (Ok c) = ok_whole c.re c.im
+total_line (Err k) = refuse k.0

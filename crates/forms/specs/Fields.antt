@@ -1,67 +1,97 @@
--- What the readers answer for fields that lines share: what was read, and that so many elements stand in the slices.
-use Rattle.std.specs.Prelude.{◌≡◌, Bool, List, [], ℕ, ◌≤◌, length, take, drop, ℤ, Float}
-use Rattle.text.specs.Readers.{Reads, answer}
-use Rattle.text.specs.Lines.{fields}
-use Rattle.forms.specs.Form.{set_kinds, rows_kinds, whole_kinds, float_kinds, state_kinds, list_kinds, rest, lengths}
+-- What the readers answer for fields that lines share: none where they do not stand there, else what was read, and the place behind it.
+use Rattle.std.specs.Prelude.{◌≡◌, List, [], ◌∷◌, ℕ, ◌≤◌, eqb, cond, length, take, drop, ℤ, Float, Option, Some, None, MatchOption}
+use Rattle.text.specs.Readers.{Got, none, got}
+use Rattle.text.specs.Lines.{word, fields}
+use Rattle.forms.specs.Form.{any, set_kinds, rows_kinds, whole_kinds, float_kinds, state_kinds, list_kinds, rest, lengths}
 use Rattle.forms.specs.declared.read.Set.{Set}
 use Rattle.forms.specs.declared.read.Rows.{Rows}
+use Rattle.forms.specs.declared.read.Two.{Two}
 use Rattle.forms.specs.declared.read.Lists.{Lists}
 use Rattle.forms.specs.declared.read.Terms.{Terms}
 use Rattle.forms.specs.declared.read.Vectors.{Vectors}
+use Rattle.forms.specs.declared.read.Between.{Between}
 use Rattle.forms.specs.declared.read.Lengths.{Lengths}
 
+-- read at a place of s: the value of f, which fits, and the place behind it
+pub record Found {A R : Type 0} (read : List ℕ → Got A) (value : R → A) (Fits : R → Type 0) (s : List ℕ) (at : ℕ) (f : R × ℕ) : Type 0 where
+  pub is : read (drop at s) ≡ got (value f.0) (drop f.1 s)
+  pub within : f.1 ≤ length s
+  pub room : Fits f.0
+
+-- the same, or none where none is read
+abbrev pub Finds : {A R : Type 0} → (List ℕ → Got A) → (R → A) → (R → Type 0) → List ℕ → ℕ → Option (R × ℕ) → Type 0
+Finds read value Fits s at None = read (drop at s) ≡ none
+Finds read value Fits s at (Some f) = Found read value Fits s at f
+
+-- what is read is the value, and always fits
+abbrev pub itself : {A : Type 0} → A → A
+itself v = v
+
+abbrev pub Any : {A : Type 0} → A → Type 0
+Any v = Unit {0}
+
+-- a number of at most so much
+abbrev pub NumberRead : (List ℕ → Got ℕ) → ℕ → List ℕ → ℕ → Option (ℕ × ℕ) → Type 0
+NumberRead read most s at r = Finds read itself (λ v. v ≤ most) s at r
+
+-- a list, by how many items it has, into a slice that held o and holds p now
+abbrev pub ListRead : {A : Type 0} → (ℕ → List ℕ → Got (List A)) → List ℕ → ℕ → List A → List A → Option (ℕ × ℕ) → Type 0
+ListRead read s at o p r = Finds (read (length o)) (λ k. take k p) (λ k. k ≤ length p) s at r
+
+-- what is read up to the line's end, of n bytes
+abbrev pub closed_at : {R : Type 0} → ℕ → Option (R × ℕ) → Option R
+closed_at n None = None
+closed_at n (Some f) = cond (eqb f.1 n) (Some f.0) None
+
+-- a b, of numbers and of words
+abbrev pub TwoRead : List ℕ → ℕ → Option (Two × ℕ) → Type 0
+TwoRead s at r = Finds (fields (any ∷ any ∷ [])) (λ q. (q.a, (q.b, tt))) Any s at r
+
+abbrev pub BetweenRead : List ℕ → ℕ → Option (Between × ℕ) → Type 0
+BetweenRead s at r = Finds (fields (word ∷ word ∷ [])) (λ q. (q.bra, (q.ket, tt))) Any s at r
+
 -- X Z P
-pub record SetRead (s : List ℕ) (at : ℕ) (x x' z z' p p' : List ℕ) (r : Set) : Type 0 where
-  pub is : Reads (fields (set_kinds (length x) (length z) (length p))) s at r.ok (take r.x x', (take r.z z', (take r.p p', tt))) r.at
-  pub room-x : r.x ≤ length x'
-  pub room-z : r.z ≤ length z'
-  pub room-p : r.p ≤ length p'
+abbrev pub SetRead : List ℕ → ℕ → (x x' z z' p p' : List ℕ) → Option (Set × ℕ) → Type 0
+SetRead s at x x' z z' p p' r =
+    Finds (fields (set_kinds (length x) (length z) (length p))) (λ q. (take q.x x', (take q.z z', (take q.p p', tt))))
+    (λ q. (q.x ≤ length x') × (q.z ≤ length z') × (q.p ≤ length p')) s at r
 
 -- n m X Z P
-pub record RowsRead (s : List ℕ) (at : ℕ) (x x' z z' p p' : List ℕ) (r : Rows) : Type 0 where
-  pub is : Reads (fields (rows_kinds (length x) (length z) (length p))) s at r.ok (r.n, (r.m, (take r.x x', (take r.z z', (take r.p p', tt))))) r.at
-  pub room-x : r.x ≤ length x'
-  pub room-z : r.z ≤ length z'
-  pub room-p : r.p ≤ length p'
+abbrev pub RowsRead : List ℕ → ℕ → (x x' z z' p p' : List ℕ) → Option (Rows × ℕ) → Type 0
+RowsRead s at x x' z z' p p' r =
+    Finds (fields (rows_kinds (length x) (length z) (length p))) (λ q. (q.n, (q.m, (take q.x x', (take q.z z', (take q.p p', tt))))))
+    (λ q. (q.x ≤ length x') × (q.z ≤ length z') × (q.p ≤ length p')) s at r
 
 -- order listed extra
-pub record ListsRead (s : List ℕ) (at : ℕ) (a a' b b' c c' : List ℕ) (r : Lists) : Type 0 where
-  pub is : Reads (fields (list_kinds (length a) (length b) (length c))) s at r.ok (take r.order a', (take r.listed b', (take r.extra c', tt))) r.at
-  pub room-order : r.order ≤ length a'
-  pub room-listed : r.listed ≤ length b'
-  pub room-extra : r.extra ≤ length c'
+abbrev pub ListsRead : List ℕ → ℕ → (a a' b b' c c' : List ℕ) → Option (Lists × ℕ) → Type 0
+ListsRead s at a a' b b' c c' r =
+    Finds (fields (list_kinds (length a) (length b) (length c))) (λ q. (take q.order a', (take q.listed b', (take q.extra c', tt))))
+    (λ q. (q.order ≤ length a') × (q.listed ≤ length b') × (q.extra ≤ length c')) s at r
 
--- the rest of the line, from a place on
-pub record RestRead (s : List ℕ) (at : ℕ) (ok : Bool) (from : ℕ) : Type 0 where
-  pub is : rest (drop at s) ≡ answer ok (drop from s) []
-  pub within : from ≤ length s
+-- the rest of the line, as a text: none where the line goes on with no space
+abbrev pub RestRead : {X : Type 0} → List ℕ → ℕ → Option X → (X → List ℕ) → Type 0
+RestRead s at r text = MatchOption r (rest (drop at s) ≡ none) (λ t. rest (drop at s) ≡ got (text t) [])
 
 -- lx,lz,lp,lc
-pub record LengthsRead (i j k m : ℕ) (s : List ℕ) (at : ℕ) (r : Lengths) : Type 0 where
-  pub is : Reads (lengths i j k m) s at r.ok (r.x, (r.z, (r.p, r.c))) r.at
-  pub room-x : r.x ≤ i
-  pub room-z : r.z ≤ j
-  pub room-p : r.p ≤ k
-  pub room-c : r.c ≤ m
+abbrev pub LengthsRead : (i j k m : ℕ) → List ℕ → ℕ → Option (Lengths × ℕ) → Type 0
+LengthsRead i j k m s at r =
+    Finds (lengths i j k m) (λ q. (q.x, (q.z, (q.p, q.c)))) (λ q. (q.x ≤ i) × (q.z ≤ j) × (q.p ≤ k) × (q.c ≤ m)) s at r
 
 -- n X Z RE IM
-pub record WholeRead (s : List ℕ) (at : ℕ) (x x' z z' : List ℕ) (a a' b b' : List ℤ) (r : Terms) : Type 0 where
-  pub is : Reads (fields (whole_kinds (length x) (length z) (length a) (length b))) s at r.ok (r.n, (take r.x x', (take r.z z', (take r.re a', (take r.im b', tt))))) r.at
-  pub room-x : r.x ≤ length x'
-  pub room-z : r.z ≤ length z'
-  pub room-re : r.re ≤ length a'
-  pub room-im : r.im ≤ length b'
+abbrev pub WholeRead : List ℕ → ℕ → (x x' z z' : List ℕ) → (a a' b b' : List ℤ) → Option (Terms × ℕ) → Type 0
+WholeRead s at x x' z z' a a' b b' r =
+    Finds (fields (whole_kinds (length x) (length z) (length a) (length b)))
+    (λ q. (q.n, (take q.x x', (take q.z z', (take q.re a', (take q.im b', tt))))))
+    (λ q. (q.x ≤ length x') × (q.z ≤ length z') × (q.re ≤ length a') × (q.im ≤ length b')) s at r
 
-pub record FloatsRead (s : List ℕ) (at : ℕ) (x x' z z' : List ℕ) (a a' b b' : List Float) (r : Terms) : Type 0 where
-  pub is : Reads (fields (float_kinds (length x) (length z) (length a) (length b))) s at r.ok (r.n, (take r.x x', (take r.z z', (take r.re a', (take r.im b', tt))))) r.at
-  pub room-x : r.x ≤ length x'
-  pub room-z : r.z ≤ length z'
-  pub room-re : r.re ≤ length a'
-  pub room-im : r.im ≤ length b'
+abbrev pub FloatsRead : List ℕ → ℕ → (x x' z z' : List ℕ) → (a a' b b' : List Float) → Option (Terms × ℕ) → Type 0
+FloatsRead s at x x' z z' a a' b b' r =
+    Finds (fields (float_kinds (length x) (length z) (length a) (length b)))
+    (λ q. (q.n, (take q.x x', (take q.z z', (take q.re a', (take q.im b', tt))))))
+    (λ q. (q.x ≤ length x') × (q.z ≤ length z') × (q.re ≤ length a') × (q.im ≤ length b')) s at r
 
 -- W RE IM of a state
-pub record VectorsRead (s : List ℕ) (at : ℕ) (w w' : List ℕ) (a a' b b' : List ℤ) (r : Vectors) : Type 0 where
-  pub is : Reads (fields (state_kinds (length w) (length a) (length b))) s at r.ok (take r.w w', (take r.re a', (take r.im b', tt))) r.at
-  pub room-w : r.w ≤ length w'
-  pub room-re : r.re ≤ length a'
-  pub room-im : r.im ≤ length b'
+abbrev pub VectorsRead : List ℕ → ℕ → (w w' : List ℕ) → (a a' b b' : List ℤ) → Option (Vectors × ℕ) → Type 0
+VectorsRead s at w w' a a' b b' r =
+    Finds (fields (state_kinds (length w) (length a) (length b))) (λ q. (take q.w w', (take q.re a', (take q.im b', tt))))
+    (λ q. (q.w ≤ length w') × (q.re ≤ length a') × (q.im ≤ length b')) s at r

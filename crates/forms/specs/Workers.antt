@@ -1,9 +1,10 @@
 -- What inner functions leave.
-use Rattle.std.specs.Prelude.{◌≡◌, List, ℕ}
-use Rattle.text.specs.Readers.{answer}
+use Rattle.std.specs.Prelude.{◌≡◌, List, ℕ, Option, Some, None}
+use Rattle.pauli.specs.declared.PauliMatrix.{PauliMatrix}
+use Rattle.text.specs.Readers.{none, got}
 use Rattle.forms.specs.Form.{pauli_of}
-use Rattle.forms.specs.declared.read.Letter.{Letter}
 
 -- a byte is a Pauli's letter or not
-abbrev pub Names : ℕ → Letter → Type 0
-Names c r = (t : List ℕ) → pauli_of c t ≡ answer r.ok r.pauli t
+abbrev pub Names : ℕ → Option PauliMatrix → Type 0
+Names c None = (t : List ℕ) → pauli_of c t ≡ none
+Names c (Some l) = (t : List ℕ) → pauli_of c t ≡ got l t

@@ -1,99 +1,157 @@
-// The parts that lines have in common. A reader that finds no field of its kind says so; what follows is read on all the same,
-// and the caller looks once, at the end.
-ghost use Rattle.std.specs.Prelude.{[], ◌∷◌, ◌≡◌, true, false};
-ghost use Rattle.text.specs.Readers.{Reads};
-ghost use Rattle.text.specs.Lines.{word, field, fields};
-ghost use Rattle.forms.specs.Form.{any, letter};
-ghost use Rattle.forms.specs.Fields.{SetRead, RowsRead, ListsRead, LengthsRead, RestRead, WholeRead, FloatsRead, VectorsRead};
+// The parts that lines have in common. A reader answers what it reads and the place behind it, or none where no such fields stand.
+ghost use Rattle.std.specs.Prelude.{◌≡◌, length};
+ghost use Rattle.text.specs.Numbers.{number, octet, integer, float};
+ghost use Rattle.text.specs.Lists.{list, log};
+ghost use Rattle.text.specs.Lines.{field, field_of, marked};
+ghost use Rattle.forms.specs.Form.{letter};
+ghost use Rattle.forms.specs.Fields.{Finds, itself, Any, NumberRead, ListRead, closed_at};
+ghost use Rattle.forms.specs.Fields.{TwoRead, BetweenRead, SetRead, RowsRead, ListsRead, LengthsRead, RestRead, WholeRead, FloatsRead, VectorsRead};
 ghost use Rattle.forms.specs.Workers.{Names};
 
 use pauli::PauliMatrix;
-use text::number_field;
 
-// X Z P: how many X words, Z words and phase words, and the place behind them.
-#[derive(Drop)]
+// What is read where the line ends behind it.
+pub fn last<T: Drop>(s: &[u8], read: Option<(T, usize)>) -> Option<T>
+    ensures { result ≡ closed_at (length s.now) read }
+{
+    let (v, at) = read?;
+    (at == s.len()).then_some(v)
+}
+
+// ---- single fields: those of `text`
+
+// A number of at most `most`.
+pub fn number(s: &[u8], at: usize, most: usize) -> Option<(usize, usize)>
+    ensures { NumberRead (field (number 10 most)) most s.now at result }
+{
+    let (v, at) = text::number_field(s, at, most as u64)?;
+    Some((v as usize, at))
+}
+
+// The same behind a comma.
+fn number_behind(s: &[u8], at: usize, most: usize) -> Option<(usize, usize)>
+    ensures { NumberRead (marked 44 (number 10 most)) most s.now at result }
+{
+    let (v, at) = text::number_after(b',', s, at, most as u64)?;
+    Some((v as usize, at))
+}
+
+pub fn word(s: &[u8], at: usize) -> Option<(u64, usize)>
+    ensures { Finds (field (number 16 18446744073709551615)) itself Any s.now at result }
+{
+    text::word_field(s, at)
+}
+
+// A list is answered by how many items it has.
+pub fn words(s: &[u8], at: usize, out: &mut [u64]) -> Option<(usize, usize)>
+    ensures { ListRead (field_of (list (number 16 18446744073709551615))) s.now at out.old out.new result }
+{
+    text::words_field(s, at, out).ok()
+}
+
+pub fn halves(s: &[u8], at: usize, out: &mut [u16]) -> Option<(usize, usize)>
+    ensures { ListRead (field_of (list (number 10 65535))) s.now at out.old out.new result }
+{
+    text::halves_field(s, at, out).ok()
+}
+
+pub fn log(s: &[u8], at: usize, out: &mut [u16]) -> Option<(usize, usize)>
+    ensures { ListRead (field_of (log (number 10 65535))) s.now at out.old out.new result }
+{
+    text::log_field(s, at, out).ok()
+}
+
+pub fn octets(s: &[u8], at: usize, out: &mut [u8]) -> Option<(usize, usize)>
+    ensures { ListRead (field_of (list octet)) s.now at out.old out.new result }
+{
+    text::octets_field(s, at, out).ok()
+}
+
+fn ints(s: &[u8], at: usize, out: &mut [i32]) -> Option<(usize, usize)>
+    ensures { ListRead (field_of (list (integer 2147483647))) s.now at out.old out.new result }
+{
+    text::ints_field(s, at, out).ok()
+}
+
+fn floats(s: &[u8], at: usize, out: &mut [f64]) -> Option<(usize, usize)>
+    ensures { ListRead (field_of (list float)) s.now at out.old out.new result }
+{
+    text::floats_field(s, at, out).ok()
+}
+
+// ---- sets
+
+// X Z P: how many X words, Z words and phase words.
+#[derive(Clone, Copy)]
 pub struct Set {
-    pub ok: bool,
     pub x: usize,
     pub z: usize,
     pub p: usize,
-    pub at: usize,
 }
 
-pub fn read_set(s: &[u8], at: usize, x: &mut [u64], z: &mut [u64], p: &mut [u64]) -> Set
+pub fn read_set(
+    s: &[u8],
+    at: usize,
+    x: &mut [u64],
+    z: &mut [u64],
+    p: &mut [u64],
+) -> Option<(Set, usize)>
     ensures { SetRead s.now at x.old x.new z.old z.new p.old p.new result }
 {
-    let a = text::words_field(s, at, x);
-    let b = text::words_field(s, a.at, z);
-    let c = text::words_field(s, b.at, p);
-    Set {
-        ok: a.ok & (b.ok & c.ok),
-        x: a.count,
-        z: b.count,
-        p: c.count,
-        at: c.at,
-    }
+    let (x, at) = words(s, at, x)?;
+    let (z, at) = words(s, at, z)?;
+    let (p, at) = words(s, at, p)?;
+    Some((Set { x, z, p }, at))
 }
 
 // n m X Z P: the same behind n and m.
-#[derive(Drop)]
+#[derive(Clone, Copy)]
 pub struct Rows {
-    pub ok: bool,
     pub n: usize,
     pub m: usize,
     pub x: usize,
     pub z: usize,
     pub p: usize,
-    pub at: usize,
 }
 
-pub fn read_rows(s: &[u8], at: usize, x: &mut [u64], z: &mut [u64], p: &mut [u64]) -> Rows
+pub fn read_rows(
+    s: &[u8],
+    at: usize,
+    x: &mut [u64],
+    z: &mut [u64],
+    p: &mut [u64],
+) -> Option<(Rows, usize)>
     ensures { RowsRead s.now at x.old x.new z.old z.new p.old p.new result }
 {
-    let n = number_field(s, at, u64::MAX);
-    let m = number_field(s, n.at, u64::MAX);
-    let l = read_set(s, m.at, x, z, p);
-    Rows {
-        ok: n.ok & (m.ok & l.ok),
-        n: n.value as usize,
-        m: m.value as usize,
-        x: l.x,
-        z: l.z,
-        p: l.p,
-        at: l.at,
-    }
+    let (n, at) = number(s, at, usize::MAX)?;
+    let (m, at) = number(s, at, usize::MAX)?;
+    let (Set { x, z, p }, at) = read_set(s, at, x, z, p)?;
+    Some((Rows { n, m, x, z, p }, at))
 }
 
-// a b: two numbers.
-#[derive(Drop)]
+// ---- numbers
+
+// a b
+#[derive(Clone, Copy)]
 pub struct Two {
-    pub ok: bool,
     pub a: usize,
     pub b: usize,
-    pub at: usize,
 }
 
-pub fn read_two(s: &[u8], at: usize) -> Two
-    ensures { Reads (fields (any ∷ any ∷ [])) s.now at result.ok (result.a, (result.b, tt)) result.at }
+pub fn read_two(s: &[u8], at: usize) -> Option<(Two, usize)>
+    ensures { TwoRead s.now at result }
 {
-    let a = number_field(s, at, u64::MAX);
-    let b = number_field(s, a.at, u64::MAX);
-    Two {
-        ok: a.ok & b.ok,
-        a: a.value as usize,
-        b: b.value as usize,
-        at: b.at,
-    }
+    let (a, at) = number(s, at, usize::MAX)?;
+    let (b, at) = number(s, at, usize::MAX)?;
+    Some((Two { a, b }, at))
 }
 
 // order listed extra
-#[derive(Drop)]
+#[derive(Clone, Copy)]
 pub struct Lists {
-    pub ok: bool,
     pub order: usize,
     pub listed: usize,
     pub extra: usize,
-    pub at: usize,
 }
 
 pub fn read_lists(
@@ -102,150 +160,101 @@ pub fn read_lists(
     order: &mut [u16],
     listed: &mut [u16],
     extra: &mut [u16],
-) -> Lists
+) -> Option<(Lists, usize)>
     ensures { ListsRead s.now at order.old order.new listed.old listed.new extra.old extra.new result }
 {
-    let a = text::halves_field(s, at, order);
-    let b = text::halves_field(s, a.at, listed);
-    let c = text::halves_field(s, b.at, extra);
-    Lists {
-        ok: a.ok & (b.ok & c.ok),
-        order: a.count,
-        listed: b.count,
-        extra: c.count,
-        at: c.at,
-    }
+    let (order, at) = halves(s, at, order)?;
+    let (listed, at) = halves(s, at, listed)?;
+    let (extra, at) = halves(s, at, extra)?;
+    Some((
+        Lists {
+            order,
+            listed,
+            extra,
+        },
+        at,
+    ))
 }
 
 // lx,lz,lp,lc
-#[derive(Drop)]
+#[derive(Clone, Copy)]
 pub struct Lengths {
-    pub ok: bool,
     pub x: usize,
     pub z: usize,
     pub p: usize,
     pub c: usize,
-    pub at: usize,
 }
 
-pub fn read_lengths(s: &[u8], at: usize, i: usize, j: usize, k: usize, m: usize) -> Lengths
+pub fn read_lengths(
+    s: &[u8],
+    at: usize,
+    i: usize,
+    j: usize,
+    k: usize,
+    m: usize,
+) -> Option<(Lengths, usize)>
     ensures { LengthsRead i j k m s.now at result }
 {
-    let x = number_field(s, at, i as u64);
-    let z = text::number_after(b',', s, x.at, j as u64);
-    let p = text::number_after(b',', s, z.at, k as u64);
-    let c = text::number_after(b',', s, p.at, m as u64);
-    Lengths {
-        ok: x.ok & (z.ok & (p.ok & c.ok)),
-        x: x.value as usize,
-        z: z.value as usize,
-        p: p.value as usize,
-        c: c.value as usize,
-        at: c.at,
-    }
+    let (x, at) = number(s, at, i)?;
+    let (z, at) = number_behind(s, at, j)?;
+    let (p, at) = number_behind(s, at, k)?;
+    let (c, at) = number_behind(s, at, m)?;
+    Some((Lengths { x, z, p, c }, at))
 }
 
-// A Pauli's letter behind a space; the place is past it.
-#[derive(Drop)]
-pub struct Letter {
-    pub ok: bool,
-    pub pauli: PauliMatrix,
-    pub at: usize,
-}
+// ---- letters, and the line's rest
 
-fn no_letter() -> Letter
-    ensures { (result.ok ≡ false) × (result.at ≡ 0) }
+// The Pauli of a letter.
+fn named(c: u8) -> Option<PauliMatrix>
+    ensures { Names c result }
 {
-    Letter {
-        ok: false,
-        pauli: PauliMatrix::I,
-        at: 0,
+    match c {
+        b'I' => Some(PauliMatrix::I),
+        b'X' => Some(PauliMatrix::X),
+        b'Y' => Some(PauliMatrix::Y),
+        b'Z' => Some(PauliMatrix::Z),
+        _ => None,
     }
 }
 
-fn found(pauli: PauliMatrix, at: usize) -> Letter
-    ensures { (result.ok ≡ true) × (result.pauli ≡ pauli) × (result.at ≡ at) }
+// A Pauli's letter behind a space.
+pub fn read_letter(s: &[u8], at: usize) -> Option<(PauliMatrix, usize)>
+    ensures { Finds (field letter) itself Any s.now at result }
 {
-    Letter {
-        ok: true,
-        pauli,
-        at,
-    }
-}
-
-// The Pauli of a letter, which ends at a place.
-fn named(c: u8, at: usize) -> Letter
-    ensures { (Names c result) × (result.at ≡ at) }
-{
-    if c == b'I' {
-        return found(PauliMatrix::I, at);
-    }
-    if c == b'X' {
-        return found(PauliMatrix::X, at);
-    }
-    if c == b'Y' {
-        return found(PauliMatrix::Y, at);
-    }
-    if c == b'Z' {
-        return found(PauliMatrix::Z, at);
-    }
-    Letter {
-        ok: false,
-        pauli: PauliMatrix::I,
-        at,
-    }
-}
-
-pub fn read_letter(s: &[u8], at: usize) -> Letter
-    ensures { Reads (field letter) s.now at result.ok result.pauli result.at }
-{
-    if at >= s.len() {
-        return no_letter();
-    }
-    if s[at] != b' ' {
-        return no_letter();
+    if at >= s.len() || s[at] != b' ' {
+        return None;
     }
     let i = at + 1;
     if i >= s.len() {
-        return no_letter();
+        return None;
     }
-    named(s[i], i + 1)
+    let p = named(s[i])?;
+    Some((p, i + 1))
 }
 
-// Whether a line goes on with a space or ends, and where the text behind starts, which ends with the line.
-#[derive(Drop)]
-pub struct Rest {
-    pub ok: bool,
-    pub from: usize,
-}
-
-pub fn read_rest(s: &[u8], at: usize) -> Rest
-    ensures { RestRead s.now at result.ok result.from }
+// The text behind the space that the line goes on with; an empty one where it ends.
+pub fn read_rest(s: &[u8], at: usize) -> Option<&[u8]>
+    ensures { RestRead s.now at result (λ t. t.now) }
 {
     if at >= s.len() {
-        return Rest {
-            ok: true,
-            from: s.len(),
-        };
+        return Some(&s[s.len()..]);
     }
-    Rest {
-        ok: s[at] == b' ',
-        from: at + 1,
+    if s[at] != b' ' {
+        return None;
     }
+    Some(&s[at + 1..])
 }
 
 // ---- matrix elements
 
 // n X Z RE IM: the terms, how many words and parts of each list.
-#[derive(Drop)]
+#[derive(Clone, Copy)]
 pub struct Terms {
-    pub ok: bool,
     pub n: usize,
     pub x: usize,
     pub z: usize,
     pub re: usize,
     pub im: usize,
-    pub at: usize,
 }
 
 pub fn read_whole(
@@ -255,24 +264,16 @@ pub fn read_whole(
     z: &mut [u64],
     re: &mut [i32],
     im: &mut [i32],
-) -> Terms
+) -> Option<(Terms, usize)>
     ensures { WholeRead s.now at x.old x.new z.old z.new
         re.old re.new im.old im.new result }
 {
-    let n = number_field(s, at, u64::MAX);
-    let a = text::words_field(s, n.at, x);
-    let b = text::words_field(s, a.at, z);
-    let c = text::ints_field(s, b.at, re);
-    let d = text::ints_field(s, c.at, im);
-    Terms {
-        ok: n.ok & (a.ok & (b.ok & (c.ok & d.ok))),
-        n: n.value as usize,
-        x: a.count,
-        z: b.count,
-        re: c.count,
-        im: d.count,
-        at: d.at,
-    }
+    let (n, at) = number(s, at, usize::MAX)?;
+    let (x, at) = words(s, at, x)?;
+    let (z, at) = words(s, at, z)?;
+    let (re, at) = ints(s, at, re)?;
+    let (im, at) = ints(s, at, im)?;
+    Some((Terms { n, x, z, re, im }, at))
 }
 
 pub fn read_floats(
@@ -282,70 +283,53 @@ pub fn read_floats(
     z: &mut [u64],
     re: &mut [f64],
     im: &mut [f64],
-) -> Terms
+) -> Option<(Terms, usize)>
     ensures { FloatsRead s.now at x.old x.new z.old z.new
         re.old re.new im.old im.new result }
 {
-    let n = number_field(s, at, u64::MAX);
-    let a = text::words_field(s, n.at, x);
-    let b = text::words_field(s, a.at, z);
-    let c = text::floats_field(s, b.at, re);
-    let d = text::floats_field(s, c.at, im);
-    Terms {
-        ok: n.ok & (a.ok & (b.ok & (c.ok & d.ok))),
-        n: n.value as usize,
-        x: a.count,
-        z: b.count,
-        re: c.count,
-        im: d.count,
-        at: d.at,
-    }
+    let (n, at) = number(s, at, usize::MAX)?;
+    let (x, at) = words(s, at, x)?;
+    let (z, at) = words(s, at, z)?;
+    let (re, at) = floats(s, at, re)?;
+    let (im, at) = floats(s, at, im)?;
+    Some((Terms { n, x, z, re, im }, at))
 }
 
 // W RE IM: the words and the parts of a state.
-#[derive(Drop)]
+#[derive(Clone, Copy)]
 pub struct Vectors {
-    pub ok: bool,
     pub w: usize,
     pub re: usize,
     pub im: usize,
-    pub at: usize,
 }
 
-pub fn read_vectors(s: &[u8], at: usize, w: &mut [u64], re: &mut [i32], im: &mut [i32]) -> Vectors
+pub fn read_vectors(
+    s: &[u8],
+    at: usize,
+    w: &mut [u64],
+    re: &mut [i32],
+    im: &mut [i32],
+) -> Option<(Vectors, usize)>
     ensures { VectorsRead s.now at w.old w.new
         re.old re.new im.old im.new result }
 {
-    let a = text::words_field(s, at, w);
-    let b = text::ints_field(s, a.at, re);
-    let c = text::ints_field(s, b.at, im);
-    Vectors {
-        ok: a.ok & (b.ok & c.ok),
-        w: a.count,
-        re: b.count,
-        im: c.count,
-        at: c.at,
-    }
+    let (w, at) = words(s, at, w)?;
+    let (re, at) = ints(s, at, re)?;
+    let (im, at) = ints(s, at, im)?;
+    Some((Vectors { w, re, im }, at))
 }
 
 // bra ket
-#[derive(Drop)]
+#[derive(Clone, Copy)]
 pub struct Between {
-    pub ok: bool,
     pub bra: u64,
     pub ket: u64,
-    pub at: usize,
 }
 
-pub fn read_between(s: &[u8], at: usize) -> Between
-    ensures { Reads (fields (word ∷ word ∷ [])) s.now at result.ok (result.bra, (result.ket, tt)) result.at }
+pub fn read_between(s: &[u8], at: usize) -> Option<(Between, usize)>
+    ensures { BetweenRead s.now at result }
 {
-    let a = text::word_field(s, at);
-    let b = text::word_field(s, a.at);
-    Between {
-        ok: a.ok & b.ok,
-        bra: a.value,
-        ket: b.value,
-        at: b.at,
-    }
+    let (bra, at) = word(s, at)?;
+    let (ket, at) = word(s, at)?;
+    Some((Between { bra, ket }, at))
 }

@@ -2,246 +2,188 @@
 ghost use Rattle.std.specs.Prelude.{◌≡◌, cond, [], ◌∷◌, ◌++◌, ◌*◌, ◌<◌, take};
 ghost use Rattle.forms.specs.Answers.{Says, number_text, word_text, integer_text, float_text, words_text, numbers_text, set_text, end as lineEnd, bad_line, refuse as refused, ok_number, acted_word, letter_of, ok_letter, got_line, phase_line, truth_line, tally_text, ok_counts, count_line, ok_set, changed_line, ok_product, product_line, ok_pairs, pair_line, ok_acted, act_line, ok_matrix, matrix_line, text_field, ok_text, written_line, pairs_of, pair_text, pairs_text, standing as standingText, ok_reduced, full_log, reduce_line, verdict_at, verdict_plain, check_line, undo_line, octets_text, ok_file, file_line, ok_whole, ok_float, whole_line, float_line, total_line};
 ghost use Rattle.text.specs.Numbers.{numeral, digits as Numbers·digits};
-ghost use Rattle.text.specs.Lists.{listed};
-ghost use Rattle.text.specs.Readers.{Added};
-ghost use Rattle.text.specs.Workers.{between};
+ghost use Rattle.text.specs.Lists.{joined, listed};
 
-use cmpnt_list::{Got, Phase, Tally, Truth};
-use encoding::Answer;
-use pauli::PauliMatrix;
-use replay::{Undone, Verdict};
-use row_text::Written;
-use terms::{Canonicalized, Clashes};
-use text::Put;
+use encoding::Refusal;
+use pauli::{ComplexSign, PauliMatrix};
+use replay::{NotUndone, Verdict};
+use terms::{Canonicalized, Stopped};
 
 // ---- a piece
 
-pub fn letters(out: &mut [u8], r: Put, s: &[u8]) -> Put
-    ensures { Says s.now out.old r out.new result }
+pub fn letters(out: &mut [u8], at: usize, s: &[u8]) -> Option<usize>
+    ensures { Says s.now out.old at out.new result }
 {
-    if !r.ok {
-        return r;
-    }
-    let at = r.at;
     text::put_text(out, at, s)
 }
 
-fn mark(out: &mut [u8], r: Put, c: u8) -> Put
-    ensures { Says (c ∷ []) out.old r out.new result }
+fn mark(out: &mut [u8], at: usize, c: u8) -> Option<usize>
+    ensures { Says (c ∷ []) out.old at out.new result }
 {
-    if !r.ok {
-        return r;
-    }
-    let at = r.at;
     text::put_byte(out, at, c)
 }
 
 // ---- a space, and a field
 
-fn number(out: &mut [u8], r: Put, v: u64) -> Put
-    ensures { Says (number_text v) out.old r out.new result }
+fn number(out: &mut [u8], at: usize, v: u64) -> Option<usize>
+    ensures { Says (number_text v) out.old at out.new result }
 {
-    let r = mark(out, r, b' ');
-    if !r.ok {
-        return r;
-    }
-    let at = r.at;
+    let at = mark(out, at, b' ')?;
     text::put_decimal(out, at, v)
 }
 
-fn word(out: &mut [u8], r: Put, v: u64) -> Put
-    ensures { Says (word_text v) out.old r out.new result }
+fn word(out: &mut [u8], at: usize, v: u64) -> Option<usize>
+    ensures { Says (word_text v) out.old at out.new result }
 {
-    let r = mark(out, r, b' ');
-    if !r.ok {
-        return r;
-    }
-    let at = r.at;
+    let at = mark(out, at, b' ')?;
     text::put_hexadecimal(out, at, v)
 }
 
-fn integer(out: &mut [u8], r: Put, v: i64) -> Put
-    ensures { Says (integer_text v) out.old r out.new result }
+fn integer(out: &mut [u8], at: usize, v: i64) -> Option<usize>
+    ensures { Says (integer_text v) out.old at out.new result }
 {
-    let r = mark(out, r, b' ');
-    if !r.ok {
-        return r;
-    }
-    let at = r.at;
+    let at = mark(out, at, b' ')?;
     text::put_integer(out, at, v)
 }
 
-fn float(out: &mut [u8], r: Put, v: f64) -> Put
-    ensures { Says (float_text v) out.old r out.new result }
+fn float(out: &mut [u8], at: usize, v: f64) -> Option<usize>
+    ensures { Says (float_text v) out.old at out.new result }
 {
-    let r = mark(out, r, b' ');
-    if !r.ok {
-        return r;
-    }
-    let at = r.at;
+    let at = mark(out, at, b' ')?;
     text::put_float(out, at, v)
 }
 
-fn words(out: &mut [u8], r: Put, xs: &[u64]) -> Put
-    ensures { Says (words_text xs.now) out.old r out.new result }
+fn words(out: &mut [u8], at: usize, xs: &[u64]) -> Option<usize>
+    ensures { Says (words_text xs.now) out.old at out.new result }
 {
-    let r = mark(out, r, b' ');
-    if !r.ok {
-        return r;
-    }
-    let at = r.at;
+    let at = mark(out, at, b' ')?;
     text::put_words(out, at, xs)
 }
 
-fn halves(out: &mut [u8], r: Put, xs: &[u16]) -> Put
-    ensures { Says (numbers_text xs.now) out.old r out.new result }
+fn halves(out: &mut [u8], at: usize, xs: &[u16]) -> Option<usize>
+    ensures { Says (numbers_text xs.now) out.old at out.new result }
 {
-    let r = mark(out, r, b' ');
-    if !r.ok {
-        return r;
-    }
-    let at = r.at;
+    let at = mark(out, at, b' ')?;
     text::put_halves(out, at, xs)
 }
 
 // ---- pairs
 
-// The pair a:b, and a comma before more.
-fn pair(out: &mut [u8], r: Put, a: u64, b: u64, more: bool) -> Put
-    ensures { Says (pair_text (a, b) ++ between more 44) out.old r out.new result }
+// The pair a:b.
+fn pair(out: &mut [u8], at: usize, a: u16, b: u16) -> Option<usize>
+    ensures { Says (pair_text (a, b)) out.old at out.new result }
 {
-    let r = digits(out, r, a);
-    let r = mark(out, r, b':');
-    let r = digits(out, r, b);
-    if !more {
-        return r;
-    }
-    mark(out, r, b',')
+    let at = text::put_decimal(out, at, a as u64)?;
+    let at = text::put_byte(out, at, b':')?;
+    text::put_decimal(out, at, b as u64)
 }
 
-fn digits(out: &mut [u8], r: Put, v: u64) -> Put
-    ensures { Says (numeral 10 v) out.old r out.new result }
+// A comma and a pair.
+fn further(out: &mut [u8], at: usize, a: u16, b: u16) -> Option<usize>
+    ensures { Says (44 ∷ pair_text (a, b)) out.old at out.new result }
 {
-    if !r.ok {
-        return r;
-    }
-    let at = r.at;
-    text::put_decimal(out, at, v)
+    let at = text::put_byte(out, at, b',')?;
+    pair(out, at, a, b)
 }
 
-fn wide(v: u16) -> u64
-    ensures { result ≡ v }
+// A pair, and of the others elements 0 and 1, 2 and 3, and so on; one that is left over is not written.
+fn joined_pairs(out: &mut [u8], at: usize, a: u16, b: u16, others: &[u16]) -> Option<usize>
+    ensures { Says (joined pair_text (a, b) (pairs_of others.now)) out.old at out.new result }
 {
-    v as u64
+    let mut end = pair(out, at, a, b)?;
+    for i in 0..others.len() / 2 {
+        end = further(out, end, others[2 * i], others[2 * i + 1])?;
+    }
+    Some(end)
 }
 
-// Elements 0 and 1, 2 and 3, and so on; one that is left over is not written.
-fn put_pairs(out: &mut [u8], at: usize, xs: &[u16]) -> Put
-    ensures { Added (listed pair_text (pairs_of xs.now)) out.old at out.new result.ok result.at }
+// Pairs with commas between them; a minus for none.
+fn put_pairs(out: &mut [u8], at: usize, xs: &[u16]) -> Option<usize>
+    ensures { Says (listed pair_text (pairs_of xs.now)) out.old at out.new result }
 {
-    let n = xs.len() / 2;
-    let mut r = Put {
-        ok: at <= out.len(),
-        at,
-    };
-    let mut i = 0;
-    while i < n {
-        let a = wide(xs[2 * i]);
-        let b = wide(xs[2 * i + 1]);
-        i += 1;
-        r = pair(out, r, a, b, i < n);
+    match xs {
+        [a, b, others @ ..] => joined_pairs(out, at, *a, *b, others),
+        _ => text::put_byte(out, at, b'-'),
     }
-    dash(out, r, n == 0)
 }
 
-// The empty list.
-fn dash(out: &mut [u8], r: Put, none: bool) -> Put
-    ensures { Says (between none 45) out.old r out.new result }
+fn pairs(out: &mut [u8], at: usize, xs: &[u16]) -> Option<usize>
+    ensures { Says (pairs_text xs.now) out.old at out.new result }
 {
-    if !none {
-        return r;
-    }
-    mark(out, r, b'-')
-}
-
-fn pairs(out: &mut [u8], r: Put, xs: &[u16]) -> Put
-    ensures { Says (pairs_text xs.now) out.old r out.new result }
-{
-    let r = mark(out, r, b' ');
-    if !r.ok {
-        return r;
-    }
-    let at = r.at;
+    let at = mark(out, at, b' ')?;
     put_pairs(out, at, xs)
 }
 
 // ---- several fields, and the line's end
 
-fn set(out: &mut [u8], r: Put, x: &[u64], z: &[u64], p: &[u64]) -> Put
-    ensures { Says (set_text x.now z.now p.now) out.old r out.new result }
+fn set(out: &mut [u8], at: usize, x: &[u64], z: &[u64], p: &[u64]) -> Option<usize>
+    ensures { Says (set_text x.now z.now p.now) out.old at out.new result }
 {
-    let r = words(out, r, x);
-    let r = words(out, r, z);
-    words(out, r, p)
+    let at = words(out, at, x)?;
+    let at = words(out, at, z)?;
+    words(out, at, p)
 }
 
-fn end(out: &mut [u8], r: Put) -> Put
-    ensures { Says (10 ∷ []) out.old r out.new result }
+fn end(out: &mut [u8], at: usize) -> Option<usize>
+    ensures { Says (10 ∷ []) out.old at out.new result }
 {
-    mark(out, r, b'\n')
+    mark(out, at, b'\n')
 }
 
-fn set_end(out: &mut [u8], r: Put, x: &[u64], z: &[u64], p: &[u64]) -> Put
-    ensures { Says (set_text x.now z.now p.now ++ lineEnd) out.old r out.new result }
+fn set_end(out: &mut [u8], at: usize, x: &[u64], z: &[u64], p: &[u64]) -> Option<usize>
+    ensures { Says (set_text x.now z.now p.now ++ lineEnd) out.old at out.new result }
 {
-    let r = set(out, r, x, z, p);
-    end(out, r)
+    let at = set(out, at, x, z, p)?;
+    end(out, at)
 }
 
-fn number_end(out: &mut [u8], r: Put, v: u64) -> Put
-    ensures { Says (number_text v ++ lineEnd) out.old r out.new result }
+fn number_end(out: &mut [u8], at: usize, v: u64) -> Option<usize>
+    ensures { Says (number_text v ++ lineEnd) out.old at out.new result }
 {
-    let r = number(out, r, v);
-    end(out, r)
+    let at = number(out, at, v)?;
+    end(out, at)
 }
 
-fn words_end(out: &mut [u8], r: Put, xs: &[u64]) -> Put
-    ensures { Says (words_text xs.now ++ lineEnd) out.old r out.new result }
+fn words_end(out: &mut [u8], at: usize, xs: &[u64]) -> Option<usize>
+    ensures { Says (words_text xs.now ++ lineEnd) out.old at out.new result }
 {
-    let r = words(out, r, xs);
-    end(out, r)
+    let at = words(out, at, xs)?;
+    end(out, at)
 }
 
 // ---- lines
 
-pub fn bad(out: &mut [u8], r: Put) -> Put
-    ensures { Says (bad_line) out.old r out.new result }
+pub fn bad(out: &mut [u8], at: usize) -> Option<usize>
+    ensures { Says (bad_line) out.old at out.new result }
 {
-    letters(out, r, b"bad line\n")
+    letters(out, at, b"bad line\n")
 }
 
-fn refuse(out: &mut [u8], r: Put, k: u8) -> Put
-    ensures { Says (refused k) out.old r out.new result }
+#[tactic(auto, unfolding(crate::specs::Answers::refuse))]
+fn refuse(out: &mut [u8], at: usize, k: Refusal) -> Option<usize>
+    ensures { Says (refused k.0) out.old at out.new result }
 {
-    let r = letters(out, r, b"refuse");
-    number_end(out, r, k as u64)
+    let at = letters(out, at, b"refuse")?;
+    number_end(out, at, k.0 as u64)
 }
 
-pub fn ok_number(out: &mut [u8], r: Put, v: u64) -> Put
-    ensures { Says (ok_number v) out.old r out.new result }
+#[tactic(auto, unfolding(crate::specs::Answers::ok_number))]
+pub fn ok_number(out: &mut [u8], at: usize, v: u64) -> Option<usize>
+    ensures { Says (ok_number v) out.old at out.new result }
 {
-    let r = letters(out, r, b"ok");
-    number_end(out, r, v)
+    let at = letters(out, at, b"ok")?;
+    number_end(out, at, v)
 }
 
 // ok e word
-pub fn acted_word(out: &mut [u8], r: Put, e: u64, state: u64) -> Put
-    ensures { Says (acted_word e state) out.old r out.new result }
+#[tactic(auto, unfolding(crate::specs::Answers::acted_word))]
+pub fn acted_word(out: &mut [u8], at: usize, e: u64, state: u64) -> Option<usize>
+    ensures { Says (acted_word e state) out.old at out.new result }
 {
-    let r = letters(out, r, b"ok");
-    let r = number(out, r, e);
-    let r = word(out, r, state);
-    end(out, r)
+    let at = letters(out, at, b"ok")?;
+    let at = number(out, at, e)?;
+    let at = word(out, at, state)?;
+    end(out, at)
 }
 
 fn letter_of(p: PauliMatrix) -> u8
@@ -255,29 +197,30 @@ fn letter_of(p: PauliMatrix) -> u8
     }
 }
 
-fn ok_letter(out: &mut [u8], r: Put, p: PauliMatrix) -> Put
-    ensures { Says (ok_letter p) out.old r out.new result }
+#[tactic(auto, unfolding(crate::specs::Answers::ok_letter))]
+fn ok_letter(out: &mut [u8], at: usize, p: PauliMatrix) -> Option<usize>
+    ensures { Says (ok_letter p) out.old at out.new result }
 {
-    let r = letters(out, r, b"ok ");
-    let r = mark(out, r, letter_of(p));
-    end(out, r)
+    let at = letters(out, at, b"ok ")?;
+    let at = mark(out, at, letter_of(p))?;
+    end(out, at)
 }
 
-pub fn got(out: &mut [u8], r: Put, g: Got) -> Put
-    ensures { Says (got_line g) out.old r out.new result }
+pub fn got(out: &mut [u8], at: usize, g: Result<PauliMatrix, Refusal>) -> Option<usize>
+    ensures { Says (got_line g) out.old at out.new result }
 {
     match g {
-        Got::Is(p) => ok_letter(out, r, p),
-        Got::Refused(k) => refuse(out, r, k),
+        Ok(p) => ok_letter(out, at, p),
+        Err(k) => refuse(out, at, k),
     }
 }
 
-pub fn phase(out: &mut [u8], r: Put, a: Phase) -> Put
-    ensures { Says (phase_line a) out.old r out.new result }
+pub fn phase(out: &mut [u8], at: usize, a: Result<ComplexSign, Refusal>) -> Option<usize>
+    ensures { Says (phase_line a) out.old at out.new result }
 {
     match a {
-        Phase::Exponent(e) => ok_number(out, r, e.0 as u64),
-        Phase::Refused(k) => refuse(out, r, k),
+        Ok(e) => ok_number(out, at, e.0 as u64),
+        Err(k) => refuse(out, at, k),
     }
 }
 
@@ -287,385 +230,458 @@ fn bit(b: bool) -> u64
     if b { 1 } else { 0 }
 }
 
-pub fn truth(out: &mut [u8], r: Put, a: Truth) -> Put
-    ensures { Says (truth_line a) out.old r out.new result }
+pub fn truth(out: &mut [u8], at: usize, a: Result<bool, Refusal>) -> Option<usize>
+    ensures { Says (truth_line a) out.old at out.new result }
 {
     match a {
-        Truth::Is(b) => ok_number(out, r, bit(b)),
-        Truth::Refused(k) => refuse(out, r, k),
+        Ok(b) => ok_number(out, at, bit(b)),
+        Err(k) => refuse(out, at, k),
     }
 }
 
 // A call refuses all four counts or none.
-fn tally(out: &mut [u8], r: Put, a: Tally) -> Put
-    ensures { Says (tally_text a) out.old r out.new result }
+fn tally(out: &mut [u8], at: usize, a: Result<u64, Refusal>) -> Option<usize>
+    ensures { Says (tally_text a) out.old at out.new result }
 {
     match a {
-        Tally::Number(k) => number(out, r, k),
-        Tally::Refused(_) => r,
+        Ok(k) => number(out, at, k),
+        Err(_) => letters(out, at, b""),
     }
 }
 
-fn ok_counts(out: &mut [u8], r: Put, i: u64, x: Tally, y: Tally, z: Tally) -> Put
-    ensures { Says (ok_counts i x y z) out.old r out.new result }
+#[tactic(auto, unfolding(crate::specs::Answers::ok_counts))]
+fn ok_counts(
+    out: &mut [u8],
+    at: usize,
+    i: u64,
+    x: Result<u64, Refusal>,
+    y: Result<u64, Refusal>,
+    z: Result<u64, Refusal>,
+) -> Option<usize>
+    ensures { Says (ok_counts i x y z) out.old at out.new result }
 {
-    let r = letters(out, r, b"ok");
-    let r = number(out, r, i);
-    let r = tally(out, r, x);
-    let r = tally(out, r, y);
-    let r = tally(out, r, z);
-    end(out, r)
+    let at = letters(out, at, b"ok")?;
+    let at = number(out, at, i)?;
+    let at = tally(out, at, x)?;
+    let at = tally(out, at, y)?;
+    let at = tally(out, at, z)?;
+    end(out, at)
 }
 
-pub fn counts(out: &mut [u8], r: Put, i: Tally, x: Tally, y: Tally, z: Tally) -> Put
-    ensures { Says (count_line i x y z) out.old r out.new result }
+pub fn counts(
+    out: &mut [u8],
+    at: usize,
+    i: Result<u64, Refusal>,
+    x: Result<u64, Refusal>,
+    y: Result<u64, Refusal>,
+    z: Result<u64, Refusal>,
+) -> Option<usize>
+    ensures { Says (count_line i x y z) out.old at out.new result }
 {
     match i {
-        Tally::Number(k) => ok_counts(out, r, k, x, y, z),
-        Tally::Refused(k) => refuse(out, r, k),
+        Ok(k) => ok_counts(out, at, k, x, y, z),
+        Err(k) => refuse(out, at, k),
     }
 }
 
-fn ok_set(out: &mut [u8], r: Put, x: &[u64], z: &[u64], p: &[u64]) -> Put
-    ensures { Says (ok_set x.now z.now p.now) out.old r out.new result }
+#[tactic(auto, unfolding(crate::specs::Answers::ok_set))]
+fn ok_set(out: &mut [u8], at: usize, x: &[u64], z: &[u64], p: &[u64]) -> Option<usize>
+    ensures { Says (ok_set x.now z.now p.now) out.old at out.new result }
 {
-    let r = letters(out, r, b"ok");
-    set_end(out, r, x, z, p)
+    let at = letters(out, at, b"ok")?;
+    set_end(out, at, x, z, p)
 }
 
-pub fn changed(out: &mut [u8], r: Put, a: Answer, x: &[u64], z: &[u64], p: &[u64]) -> Put
-    ensures { Says (changed_line a x.now z.now p.now) out.old r out.new result }
+pub fn changed(
+    out: &mut [u8],
+    at: usize,
+    a: Result<(), Refusal>,
+    x: &[u64],
+    z: &[u64],
+    p: &[u64],
+) -> Option<usize>
+    ensures { Says (changed_line a x.now z.now p.now) out.old at out.new result }
 {
     match a {
-        Answer::Done => ok_set(out, r, x, z, p),
-        Answer::Refused(k) => refuse(out, r, k),
+        Ok(()) => ok_set(out, at, x, z, p),
+        Err(k) => refuse(out, at, k),
     }
 }
 
-fn ok_product(out: &mut [u8], r: Put, c: u16, x: &[u64], z: &[u64], p: &[u64]) -> Put
-    ensures { Says (ok_product c x.now z.now p.now) out.old r out.new result }
+#[tactic(auto, unfolding(crate::specs::Answers::ok_product))]
+fn ok_product(out: &mut [u8], at: usize, c: u16, x: &[u64], z: &[u64], p: &[u64]) -> Option<usize>
+    ensures { Says (ok_product c x.now z.now p.now) out.old at out.new result }
 {
-    let r = letters(out, r, b"ok");
-    let r = set(out, r, x, z, p);
-    number_end(out, r, c as u64)
+    let at = letters(out, at, b"ok")?;
+    let at = set(out, at, x, z, p)?;
+    number_end(out, at, c as u64)
 }
 
-pub fn product(out: &mut [u8], r: Put, a: Clashes, x: &[u64], z: &[u64], p: &[u64]) -> Put
-    ensures { Says (product_line a x.now z.now p.now) out.old r out.new result }
+pub fn product(
+    out: &mut [u8],
+    at: usize,
+    a: Result<u16, Refusal>,
+    x: &[u64],
+    z: &[u64],
+    p: &[u64],
+) -> Option<usize>
+    ensures { Says (product_line a x.now z.now p.now) out.old at out.new result }
 {
     match a {
-        Clashes::Number(c) => ok_product(out, r, c, x, z, p),
-        Clashes::Refused(k) => refuse(out, r, k),
+        Ok(c) => ok_product(out, at, c, x, z, p),
+        Err(k) => refuse(out, at, k),
     }
 }
 
-fn ok_pairs(out: &mut [u8], r: Put, x: &[u64], z: &[u64], p: &[u64], c: &[u16]) -> Put
-    ensures { Says (ok_pairs x.now z.now p.now c.now) out.old r out.new result }
+#[tactic(auto, unfolding(crate::specs::Answers::ok_pairs))]
+fn ok_pairs(out: &mut [u8], at: usize, x: &[u64], z: &[u64], p: &[u64], c: &[u16]) -> Option<usize>
+    ensures { Says (ok_pairs x.now z.now p.now c.now) out.old at out.new result }
 {
-    let r = letters(out, r, b"ok");
-    let r = set(out, r, x, z, p);
-    let r = halves(out, r, c);
-    end(out, r)
+    let at = letters(out, at, b"ok")?;
+    let at = set(out, at, x, z, p)?;
+    let at = halves(out, at, c)?;
+    end(out, at)
 }
 
-pub fn paired(out: &mut [u8], r: Put, a: Answer, x: &[u64], z: &[u64], p: &[u64], c: &[u16]) -> Put
-    ensures { Says (pair_line a x.now z.now p.now c.now) out.old r out.new result }
+pub fn paired(
+    out: &mut [u8],
+    at: usize,
+    a: Result<(), Refusal>,
+    x: &[u64],
+    z: &[u64],
+    p: &[u64],
+    c: &[u16],
+) -> Option<usize>
+    ensures { Says (pair_line a x.now z.now p.now c.now) out.old at out.new result }
 {
     match a {
-        Answer::Done => ok_pairs(out, r, x, z, p, c),
-        Answer::Refused(k) => refuse(out, r, k),
+        Ok(()) => ok_pairs(out, at, x, z, p, c),
+        Err(k) => refuse(out, at, k),
     }
 }
 
-fn ok_acted(out: &mut [u8], r: Put, e: u8, state: &[u64]) -> Put
-    ensures { Says (ok_acted e state.now) out.old r out.new result }
+#[tactic(auto, unfolding(crate::specs::Answers::ok_acted))]
+fn ok_acted(out: &mut [u8], at: usize, e: u8, state: &[u64]) -> Option<usize>
+    ensures { Says (ok_acted e state.now) out.old at out.new result }
 {
-    let r = letters(out, r, b"ok");
-    let r = number(out, r, e as u64);
-    words_end(out, r, state)
+    let at = letters(out, at, b"ok")?;
+    let at = number(out, at, e as u64)?;
+    words_end(out, at, state)
 }
 
-pub fn acted(out: &mut [u8], r: Put, a: Phase, state: &[u64]) -> Put
-    ensures { Says (act_line a state.now) out.old r out.new result }
+pub fn acted(
+    out: &mut [u8],
+    at: usize,
+    a: Result<ComplexSign, Refusal>,
+    state: &[u64],
+) -> Option<usize>
+    ensures { Says (act_line a state.now) out.old at out.new result }
 {
     match a {
-        Phase::Exponent(e) => ok_acted(out, r, e.0, state),
-        Phase::Refused(k) => refuse(out, r, k),
+        Ok(e) => ok_acted(out, at, e.0, state),
+        Err(k) => refuse(out, at, k),
     }
 }
 
-fn ok_matrix(out: &mut [u8], r: Put, m: &[u64]) -> Put
-    ensures { Says (ok_matrix m.now) out.old r out.new result }
+#[tactic(auto, unfolding(crate::specs::Answers::ok_matrix))]
+fn ok_matrix(out: &mut [u8], at: usize, m: &[u64]) -> Option<usize>
+    ensures { Says (ok_matrix m.now) out.old at out.new result }
 {
-    let r = letters(out, r, b"ok");
-    words_end(out, r, m)
+    let at = letters(out, at, b"ok")?;
+    words_end(out, at, m)
 }
 
-pub fn matrix(out: &mut [u8], r: Put, a: Answer, m: &[u64]) -> Put
-    ensures { Says (matrix_line a m.now) out.old r out.new result }
+pub fn matrix(out: &mut [u8], at: usize, a: Result<(), Refusal>, m: &[u64]) -> Option<usize>
+    ensures { Says (matrix_line a m.now) out.old at out.new result }
 {
     match a {
-        Answer::Done => ok_matrix(out, r, m),
-        Answer::Refused(k) => refuse(out, r, k),
+        Ok(()) => ok_matrix(out, at, m),
+        Err(k) => refuse(out, at, k),
     }
 }
 
 // ---- the text of a row
 
 // A space and the text; nothing where it is empty.
-fn text_field(out: &mut [u8], r: Put, s: &[u8]) -> Put
-    ensures { Says (text_field s.now) out.old r out.new result }
+fn text_field(out: &mut [u8], at: usize, s: &[u8]) -> Option<usize>
+    ensures { Says (text_field s.now) out.old at out.new result }
 {
-    if s.len() == 0 {
-        return r;
+    if s.is_empty() {
+        return letters(out, at, b"");
     }
-    let r = mark(out, r, b' ');
-    letters(out, r, s)
+    let at = mark(out, at, b' ')?;
+    letters(out, at, s)
 }
 
 // The first n of the bytes.
-fn text_part(out: &mut [u8], r: Put, n: usize, b: &[u8]) -> Put
-    ensures { Says (text_field (take n b.now)) out.old r out.new result }
+fn text_part(out: &mut [u8], at: usize, n: usize, b: &[u8]) -> Option<usize>
+    ensures { Says (text_field (take n b.now)) out.old at out.new result }
 {
     if n <= b.len() {
-        return text_field(out, r, &b[0..n]);
+        return text_field(out, at, &b[0..n]);
     }
-    text_field(out, r, b)
+    text_field(out, at, b)
 }
 
-fn ok_text(out: &mut [u8], r: Put, n: usize, b: &[u8]) -> Put
-    ensures { Says (ok_text n b.now) out.old r out.new result }
+#[tactic(auto, unfolding(crate::specs::Answers::ok_text))]
+fn ok_text(out: &mut [u8], at: usize, n: usize, b: &[u8]) -> Option<usize>
+    ensures { Says (ok_text n b.now) out.old at out.new result }
 {
-    let r = letters(out, r, b"ok");
-    let r = number(out, r, n as u64);
-    let r = text_part(out, r, n, b);
-    end(out, r)
+    let at = letters(out, at, b"ok")?;
+    let at = number(out, at, n as u64)?;
+    let at = text_part(out, at, n, b)?;
+    end(out, at)
 }
 
-pub fn written(out: &mut [u8], r: Put, a: Written, b: &[u8]) -> Put
-    ensures { Says (written_line a b.now) out.old r out.new result }
+pub fn written(out: &mut [u8], at: usize, a: Result<usize, Refusal>, b: &[u8]) -> Option<usize>
+    ensures { Says (written_line a b.now) out.old at out.new result }
 {
     match a {
-        Written::Length(n) => ok_text(out, r, n, b),
-        Written::Refused(k) => refuse(out, r, k),
+        Ok(n) => ok_text(out, at, n, b),
+        Err(k) => refuse(out, at, k),
     }
 }
 
 // ---- reductions
 
 // The first entries of the log, and the rows.
-fn standing(out: &mut [u8], r: Put, n: usize, log: &[u16], x: &[u64], z: &[u64], p: &[u64]) -> Put
-    ensures { Says (standingText n log.now x.now z.now p.now) out.old r out.new result }
+#[tactic(auto, unfolding(crate::specs::Answers::standing))]
+fn standing(
+    out: &mut [u8],
+    at: usize,
+    n: usize,
+    log: &[u16],
+    x: &[u64],
+    z: &[u64],
+    p: &[u64],
+) -> Option<usize>
+    ensures { Says (standingText n log.now x.now z.now p.now) out.old at out.new result }
 {
-    let r = entries(out, r, n, log);
-    set_end(out, r, x, z, p)
+    let at = entries(out, at, n, log)?;
+    set_end(out, at, x, z, p)
 }
 
-fn entries(out: &mut [u8], r: Put, n: usize, log: &[u16]) -> Put
-    ensures { Says (pairs_text (take (n * 2) log.now)) out.old r out.new result }
+fn entries(out: &mut [u8], at: usize, n: usize, log: &[u16]) -> Option<usize>
+    ensures { Says (pairs_text (take (n * 2) log.now)) out.old at out.new result }
 {
     if n <= log.len() / 2 {
         let e = n * 2;
-        return pairs(out, r, &log[0..e]);
+        return pairs(out, at, &log[0..e]);
     }
-    pairs(out, r, log)
+    pairs(out, at, log)
 }
 
+#[tactic(auto, unfolding(crate::specs::Answers::ok_reduced))]
 fn ok_reduced(
     out: &mut [u8],
-    r: Put,
+    at: usize,
     n: usize,
     t: usize,
     log: &[u16],
     x: &[u64],
     z: &[u64],
     p: &[u64],
-) -> Put
-    ensures { Says (ok_reduced n t log.now x.now z.now p.now) out.old r out.new result }
+) -> Option<usize>
+    ensures { Says (ok_reduced n t log.now x.now z.now p.now) out.old at out.new result }
 {
-    let r = letters(out, r, b"ok");
-    let r = number(out, r, n as u64);
-    let r = number(out, r, t as u64);
-    standing(out, r, n, log, x, z, p)
+    let at = letters(out, at, b"ok")?;
+    let at = number(out, at, n as u64)?;
+    let at = number(out, at, t as u64)?;
+    standing(out, at, n, log, x, z, p)
 }
 
-fn full(out: &mut [u8], r: Put, n: usize, log: &[u16], x: &[u64], z: &[u64], p: &[u64]) -> Put
-    ensures { Says (full_log n log.now x.now z.now p.now) out.old r out.new result }
-{
-    let r = letters(out, r, b"refuse 8");
-    let r = number(out, r, n as u64);
-    standing(out, r, n, log, x, z, p)
-}
-
-pub fn reduced(
+#[tactic(auto, unfolding(crate::specs::Answers::full_log))]
+fn full(
     out: &mut [u8],
-    r: Put,
-    a: Canonicalized,
+    at: usize,
+    n: usize,
     log: &[u16],
     x: &[u64],
     z: &[u64],
     p: &[u64],
-) -> Put
-    ensures { Says (reduce_line a log.now x.now z.now p.now) out.old r out.new result }
+) -> Option<usize>
+    ensures { Says (full_log n log.now x.now z.now p.now) out.old at out.new result }
+{
+    let at = letters(out, at, b"refuse 8")?;
+    let at = number(out, at, n as u64)?;
+    standing(out, at, n, log, x, z, p)
+}
+
+pub fn reduced(
+    out: &mut [u8],
+    at: usize,
+    a: Result<Canonicalized, Stopped>,
+    log: &[u16],
+    x: &[u64],
+    z: &[u64],
+    p: &[u64],
+) -> Option<usize>
+    ensures { Says (reduce_line a log.now x.now z.now p.now) out.old at out.new result }
 {
     match a {
-        Canonicalized::Done { entries, t } => ok_reduced(out, r, entries, t, log, x, z, p),
-        Canonicalized::Full(capacity) => full(out, r, capacity, log, x, z, p),
-        Canonicalized::Refused(k) => refuse(out, r, k),
+        Ok(Canonicalized { entries, t }) => ok_reduced(out, at, entries, t, log, x, z, p),
+        Err(Stopped::Full(capacity)) => full(out, at, capacity, log, x, z, p),
+        Err(Stopped::Refused(k)) => refuse(out, at, k),
     }
 }
 
 // A verdict with a number, and the rows.
-fn verdict_at(out: &mut [u8], r: Put, name: &[u8], k: usize, x: &[u64], z: &[u64], p: &[u64]) -> Put
-    ensures { Says (verdict_at name.now k x.now z.now p.now) out.old r out.new result }
+#[tactic(auto, unfolding(crate::specs::Answers::verdict_at))]
+fn verdict_at(
+    out: &mut [u8],
+    at: usize,
+    name: &[u8],
+    k: usize,
+    x: &[u64],
+    z: &[u64],
+    p: &[u64],
+) -> Option<usize>
+    ensures { Says (verdict_at name.now k x.now z.now p.now) out.old at out.new result }
 {
-    let r = letters(out, r, name);
-    let r = number(out, r, k as u64);
-    set_end(out, r, x, z, p)
+    let at = letters(out, at, name)?;
+    let at = number(out, at, k as u64)?;
+    set_end(out, at, x, z, p)
 }
 
-fn verdict(out: &mut [u8], r: Put, name: &[u8], x: &[u64], z: &[u64], p: &[u64]) -> Put
-    ensures { Says (verdict_plain name.now x.now z.now p.now) out.old r out.new result }
+#[tactic(auto, unfolding(crate::specs::Answers::verdict_plain))]
+fn verdict(out: &mut [u8], at: usize, name: &[u8], x: &[u64], z: &[u64], p: &[u64]) -> Option<usize>
+    ensures { Says (verdict_plain name.now x.now z.now p.now) out.old at out.new result }
 {
-    let r = letters(out, r, name);
-    set_end(out, r, x, z, p)
+    let at = letters(out, at, name)?;
+    set_end(out, at, x, z, p)
 }
 
-pub fn checked(out: &mut [u8], r: Put, a: Verdict, x: &[u64], z: &[u64], p: &[u64]) -> Put
-    ensures { Says (check_line a x.now z.now p.now) out.old r out.new result }
+pub fn checked(
+    out: &mut [u8],
+    at: usize,
+    a: Result<Verdict, Refusal>,
+    x: &[u64],
+    z: &[u64],
+    p: &[u64],
+) -> Option<usize>
+    ensures { Says (check_line a x.now z.now p.now) out.old at out.new result }
 {
     match a {
-        Verdict::BadEntry(k) => verdict_at(out, r, b"ok bad", k, x, z, p),
-        Verdict::Differs(k) => verdict_at(out, r, b"ok differs", k, x, z, p),
-        Verdict::NotReduced => verdict(out, r, b"ok notreduced", x, z, p),
-        Verdict::Yes => verdict(out, r, b"ok yes", x, z, p),
-        Verdict::Refused(k) => refuse(out, r, k),
+        Ok(Verdict::BadEntry(k)) => verdict_at(out, at, b"ok bad", k, x, z, p),
+        Ok(Verdict::Differs(k)) => verdict_at(out, at, b"ok differs", k, x, z, p),
+        Ok(Verdict::NotReduced) => verdict(out, at, b"ok notreduced", x, z, p),
+        Ok(Verdict::Yes) => verdict(out, at, b"ok yes", x, z, p),
+        Err(k) => refuse(out, at, k),
     }
 }
 
-pub fn undone(out: &mut [u8], r: Put, a: Undone, x: &[u64], z: &[u64], p: &[u64]) -> Put
-    ensures { Says (undo_line a x.now z.now p.now) out.old r out.new result }
+pub fn undone(
+    out: &mut [u8],
+    at: usize,
+    a: Result<(), NotUndone>,
+    x: &[u64],
+    z: &[u64],
+    p: &[u64],
+) -> Option<usize>
+    ensures { Says (undo_line a x.now z.now p.now) out.old at out.new result }
 {
     match a {
-        Undone::BadEntry(k) => verdict_at(out, r, b"ok bad", k, x, z, p),
-        Undone::Done => verdict(out, r, b"ok done", x, z, p),
-        Undone::Refused(k) => refuse(out, r, k),
+        Err(NotUndone::BadEntry(k)) => verdict_at(out, at, b"ok bad", k, x, z, p),
+        Ok(()) => verdict(out, at, b"ok done", x, z, p),
+        Err(NotUndone::Refused(k)) => refuse(out, at, k),
     }
 }
 
 // ---- log files
 
-fn hexadecimal(out: &mut [u8], r: Put, v: u64) -> Put
-    ensures { Says (numeral 16 v) out.old r out.new result }
-{
-    if !r.ok {
-        return r;
-    }
-    let at = r.at;
-    text::put_hexadecimal(out, at, v)
-}
-
 // A byte in two digits.
-fn octet(out: &mut [u8], r: Put, v: u64) -> Put
-    requires { v < 256 }
-    ensures { Says (Numbers·digits 16 2 v) out.old r out.new result }
+fn octet(out: &mut [u8], at: usize, v: u8) -> Option<usize>
+    ensures { Says (Numbers·digits 16 2 v) out.old at out.new result }
 {
-    let r = hexadecimal(out, r, v / 16);
-    hexadecimal(out, r, v % 16)
+    let at = text::put_hexadecimal(out, at, (v / 16) as u64)?;
+    text::put_hexadecimal(out, at, (v % 16) as u64)
 }
 
-fn wide_byte(v: u8) -> u64
-    ensures { (result ≡ v) × (result < 256) }
+fn octets(out: &mut [u8], at: usize, xs: &[u8]) -> Option<usize>
+    ensures { Says (octets_text xs.now) out.old at out.new result }
 {
-    v as u64
-}
-
-fn octets(out: &mut [u8], r: Put, xs: &[u8]) -> Put
-    ensures { Says (octets_text xs.now) out.old r out.new result }
-{
-    let n = xs.len();
-    let mut q = r;
-    let mut i = 0;
-    while i < n {
-        let v = wide_byte(xs[i]);
-        q = octet(out, q, v);
-        i += 1;
+    let mut end = letters(out, at, b"")?;
+    for b in xs {
+        end = octet(out, end, *b)?;
     }
-    q
+    Some(end)
 }
 
 // The first n of the bytes.
-fn octets_part(out: &mut [u8], r: Put, n: usize, b: &[u8]) -> Put
-    ensures { Says (octets_text (take n b.now)) out.old r out.new result }
+fn octets_part(out: &mut [u8], at: usize, n: usize, b: &[u8]) -> Option<usize>
+    ensures { Says (octets_text (take n b.now)) out.old at out.new result }
 {
     if n <= b.len() {
-        return octets(out, r, &b[0..n]);
+        return octets(out, at, &b[0..n]);
     }
-    octets(out, r, b)
+    octets(out, at, b)
 }
 
-fn ok_file(out: &mut [u8], r: Put, n: usize, b: &[u8]) -> Put
-    ensures { Says (ok_file n b.now) out.old r out.new result }
+#[tactic(auto, unfolding(crate::specs::Answers::ok_file))]
+fn ok_file(out: &mut [u8], at: usize, n: usize, b: &[u8]) -> Option<usize>
+    ensures { Says (ok_file n b.now) out.old at out.new result }
 {
-    let r = letters(out, r, b"ok ");
-    let r = octets_part(out, r, n, b);
-    end(out, r)
+    let at = letters(out, at, b"ok ")?;
+    let at = octets_part(out, at, n, b)?;
+    end(out, at)
 }
 
-pub fn filed(out: &mut [u8], r: Put, a: pwl::Written, b: &[u8]) -> Put
-    ensures { Says (file_line a b.now) out.old r out.new result }
+pub fn filed(out: &mut [u8], at: usize, a: Result<usize, Refusal>, b: &[u8]) -> Option<usize>
+    ensures { Says (file_line a b.now) out.old at out.new result }
 {
     match a {
-        pwl::Written::Length(n) => ok_file(out, r, n, b),
-        pwl::Written::Refused(k) => refuse(out, r, k),
+        Ok(n) => ok_file(out, at, n, b),
+        Err(k) => refuse(out, at, k),
     }
 }
 
 // ---- matrix elements
 
-fn ok_whole(out: &mut [u8], r: Put, re: i64, im: i64) -> Put
-    ensures { Says (ok_whole re im) out.old r out.new result }
+#[tactic(auto, unfolding(crate::specs::Answers::ok_whole))]
+fn ok_whole(out: &mut [u8], at: usize, re: i64, im: i64) -> Option<usize>
+    ensures { Says (ok_whole re im) out.old at out.new result }
 {
-    let r = letters(out, r, b"ok");
-    let r = integer(out, r, re);
-    let r = integer(out, r, im);
-    end(out, r)
+    let at = letters(out, at, b"ok")?;
+    let at = integer(out, at, re)?;
+    let at = integer(out, at, im)?;
+    end(out, at)
 }
 
-pub fn whole(out: &mut [u8], r: Put, a: mat_elem::whole::Element) -> Put
-    ensures { Says (whole_line a) out.old r out.new result }
+pub fn whole(out: &mut [u8], at: usize, a: mat_elem::whole::Element) -> Option<usize>
+    ensures { Says (whole_line a) out.old at out.new result }
 {
     match a {
-        mat_elem::whole::Element::Sum(re, im) => ok_whole(out, r, re, im),
-        mat_elem::whole::Element::NoBlock => letters(out, r, b"none\n"),
-        mat_elem::whole::Element::Refused(k) => refuse(out, r, k),
+        Ok(Some(c)) => ok_whole(out, at, c.re, c.im),
+        Ok(None) => letters(out, at, b"none\n"),
+        Err(k) => refuse(out, at, k),
     }
 }
 
-fn ok_float(out: &mut [u8], r: Put, re: f64, im: f64) -> Put
-    ensures { Says (ok_float re im) out.old r out.new result }
+#[tactic(auto, unfolding(crate::specs::Answers::ok_float))]
+fn ok_float(out: &mut [u8], at: usize, re: f64, im: f64) -> Option<usize>
+    ensures { Says (ok_float re im) out.old at out.new result }
 {
-    let r = letters(out, r, b"ok");
-    let r = float(out, r, re);
-    let r = float(out, r, im);
-    end(out, r)
+    let at = letters(out, at, b"ok")?;
+    let at = float(out, at, re)?;
+    let at = float(out, at, im)?;
+    end(out, at)
 }
 
-pub fn floating(out: &mut [u8], r: Put, a: mat_elem::float::Element) -> Put
-    ensures { Says (float_line a) out.old r out.new result }
+pub fn floating(out: &mut [u8], at: usize, a: mat_elem::float::Element) -> Option<usize>
+    ensures { Says (float_line a) out.old at out.new result }
 {
     match a {
-        mat_elem::float::Element::Sum(re, im) => ok_float(out, r, re, im),
-        mat_elem::float::Element::NoBlock => letters(out, r, b"none\n"),
-        mat_elem::float::Element::Refused(k) => refuse(out, r, k),
+        Ok(Some(c)) => ok_float(out, at, c.re, c.im),
+        Ok(None) => letters(out, at, b"none\n"),
+        Err(k) => refuse(out, at, k),
     }
 }
 
-pub fn total(out: &mut [u8], r: Put, a: mat_elem::states::Total) -> Put
-    ensures { Says (total_line a) out.old r out.new result }
+pub fn total(out: &mut [u8], at: usize, a: mat_elem::states::Total) -> Option<usize>
+    ensures { Says (total_line a) out.old at out.new result }
 {
     match a {
-        mat_elem::states::Total::Sum(re, im) => ok_whole(out, r, re, im),
-        mat_elem::states::Total::Refused(k) => refuse(out, r, k),
+        Ok(c) => ok_whole(out, at, c.re, c.im),
+        Err(k) => refuse(out, at, k),
     }
 }

@@ -17,8 +17,7 @@ use Rattle.reduction.proofs.PauliRows.{rows-laws}
 use Rattle.tabled.specs.Workers.{settle, with_table, Doubles, Meets, Clearing}
 use Rattle.tabled.proofs.Steps.{freeze-settle}
 use Rattle.tabled.proofs.Columns.{freeze-clearing}
-use Rattle.late.specs.declared.clear.Late.{Late}
-use Rattle.late.specs.Workers.{lazy_of, DoubleIn, Doubled, Store, store, late_of, held_of, Shape, Carries, Runs, TurnIn, FreezeIn}
+use Rattle.late.specs.Workers.{Stage, lazy_of, DoubleIn, Doubled, Store, store, late_of, held_of, Shape, Carries, Runs, TurnIn, FreezeIn}
 use Rattle.late.proofs.View.{keeps_then}
 
 module _ {n c p h : ℕ} {S₀ S : Store} (t : TurnIn n c p h S₀) (K : Carries n S₀ S) (on : S.at.full ≡ false) (C : Clearing (bit_row n) (mul_row n) c p (S₀.at.g - 1) (late_of n S)) where
@@ -43,7 +42,7 @@ module _ {n c p h : ℕ} {S₀ S : Store} (t : TurnIn n c p h S₀) (K : Carries
 
 -- ---- the next pivot of a block
 
-module _ {n c p o : ℕ} {M T : Mem} {owed log : List ℕ} {s : Late} (h : FreezeIn n c p o (store M T owed log s)) where
+module _ {n c p o : ℕ} {M T : Mem} {owed log : List ℕ} {s : Stage} (h : FreezeIn n c p o (store M T owed log s)) where
   pub double-in : DoubleIn n o p T M
   double-in =
       record {
@@ -55,7 +54,7 @@ module _ {n c p o : ℕ} {M T : Mem} {owed log : List ℕ} {s : Late} (h : Freez
       }
 
   module _ {T' : Mem} (D : Doubled n o p T M T') where
-    abbrev next : Late
+    abbrev next : Stage
     next = record { full = false; entries = s.entries; t = s.t; g = s.g + 1 }
 
     entries-are : Doubles (mul_row n) (2 ^ s.g) (rows_of n M p) (rows_of n T) (rows_of n T')

@@ -19,7 +19,7 @@ use Rattle.encoding.proofs.Memory.{x-row, z-row}
 use Rattle.encoding.proofs.Odd.{xorᵇ, xor-odd}
 use Rattle.encoding.proofs.Parts.{get_d_part}
 use Rattle.encoding.proofs.Qubits.{qubit-at}
-use Rattle.late.specs.Workers.{word_bit, Sees}
+use Rattle.late.specs.Workers.{Placed, in-x, in-z, word_bit, Sees}
 
 xor_is : (a b : Bool) → xorᵇ a b ≡ xor a b
 unfolding xor
@@ -81,3 +81,8 @@ module _ (n c : ℕ) (M T : Mem) (s : Sound n M) (u : Sound n T) (w : ℕ) (we :
         of_row = λ k g. ap (λ j. word_bit j ((c - n) / 64) ((c - n) % 64) M.zs k) we ∙ z-column n (words_of n) s.valid k g c l h;
         of_entry = λ k g. ap (λ j. word_bit j ((c - n) / 64) ((c - n) % 64) T.zs k) we ∙ z-column n (words_of n) u.valid k g c l h;
       }
+
+-- the same, wherever it lies
+pub sees : {n c : ℕ} {M T : Mem} {bs ts : List ℕ} {w j i : ℕ} → Sound n M → Sound n T → c < n + n → Placed n c M.xs M.zs T.xs T.zs bs ts w j i → Sees n c w j i M T bs ts
+sees {n} {c} {M} {T} {bs} {ts} {w} {j} {i} s u h (in-x l eb et ew ej ei) = rw (eb, et, ej, ei) (sees-x n c M T s u w ew l)
+sees {n} {c} {M} {T} {bs} {ts} {w} {j} {i} s u h (in-z l eb et ew ej ei) = rw (eb, et, ej, ei) (sees-z n c M T s u w ew l h)

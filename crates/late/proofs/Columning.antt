@@ -2,7 +2,8 @@
 -- rows owing pivots of the block only (`Within`), and a block that is full is paid first, which changes nothing that memory stands for. Assumes nothing.
 use mathlib.Core.Path.{◌≡◌, refl, sym, ap, ◌∙◌, subst}
 use mathlib.Core.Bool.{Bool, true, false}
-use mathlib.Core.Option.{Option, none, some}
+use mathlib.Core.Option as math
+use mathlib.Core.Option.{none, some}
 use mathlib.Core.List.{List, [], ◌++◌}
 use Prim.Native.Nat.{ℕ, suc, ◌+◌, ◌*◌, ◌^◌, ◌/◌, ◌%◌, ◌≤◌, ◌<◌}
 use native.Mathlib.Decide.{dec_lt}
@@ -22,10 +23,11 @@ use Rattle.reduction.proofs.Pieces.{At, pivot-at}
 use Rattle.reduction.proofs.Places.{from_some, from-none}
 use Rattle.tabled.specs.Workers.{Lazy, row_of, settle, Meets, goes, stops, Led, Clearing, Within}
 use Rattle.tabled.proofs.Steps.{all_paid}
-use Rattle.late.specs.declared.clear.Late.{Late}
-use Rattle.late.specs.Workers.{lazy_of, PaidAll, table_rows, block_pivots, Store, store, late_of, held_by, held_of, Shape, Carries, Runs, Sees, Reads, seen_bit, FreezeIn, PivotIn, SearchIn, rows_paid, Found, ColumnIn, BeginIn, Began, StepIn, StartIn, begun, run_of, outcome, start, Does}
+use Rattle.late.specs.Workers.{Stage, lazy_of, PaidAll, table_rows, block_pivots, Store, store, late_of, held_by, held_of, Shape, Carries, Runs, Sees, Reads, seen_bit, place_from, FreezeIn, PivotIn, SearchIn, rows_paid, FoundAt, Found, ColumnIn, BeginIn, Began, StepIn, StartIn, begun, run_of, outcome, start, Does}
+use Rattle.std.specs.Prelude.{Option, None}
+use Rattle.late.proofs.Places.{from_is, from_past}
 use Rattle.late.proofs.View.{keeps-none}
-use Rattle.late.proofs.Runs.{held-going, carries-none, carries-then, runs-going, runs-stopped, runs-full, runs_then}
+use Rattle.late.proofs.Runs.{held-going, held-stopped, carries-none, carries-then, runs-going, runs-stopped, runs-full, runs_then}
 use Rattle.late.proofs.Turning.{reads_of, seen-is}
 
 -- ---- the block's next pivot
@@ -80,61 +82,66 @@ module _ {n c t : ℕ} {M : Mem} {owed : List ℕ} {T : Mem} {listed : List ℕ}
     tells : (i' : ℕ) → i' < length listed → seen_bit w j i bs owed ts (get_or listed i' 0) ≡ bit_row n (rows_paid n M owed T (get_or listed i' 0)) c
     tells i' l = seen-is {S = idle} (search-shape few) h.c-in z (get_or listed i' 0) (h.inside i' l)
 
-    pub search-found : (r : ℕ) → r ≡ t + first_place (seen_bit w j i bs owed ts) (drop t listed) → Found n c t M owed T listed r
+    found-at : (r : ℕ) → (r ≡ t + first_place (seen_bit w j i bs owed ts) (drop t listed)) × (r < length listed) → FoundAt n c t M owed T listed r
+    found-at r e =
+        record { from = omega (arith, e.0); inside = e.1; there = from_some (bit_row n) (rows_paid n M owed T) c (seen_bit w j i bs owed ts) listed t r h.place tells e.0 e.1 }
+
+    pub search-found : (r : Option ℕ) → r ≡ place_from (seen_bit w j i bs owed ts) t listed → Found n c t M owed T listed r
     search-found r e =
         record {
-          from = omega arith;
-          there = from_some (bit_row n) (rows_paid n M owed T) c (seen_bit w j i bs owed ts) listed t r h.place tells e;
-          nowhere = from-none (bit_row n) (rows_paid n M owed T) c (seen_bit w j i bs owed ts) listed t r h.place tells e;
+          at = λ k q. found-at k (from_is (seen_bit w j i bs owed ts) t listed (sym e ∙ q));
+          nowhere =
+              λ q. from-none (bit_row n) (rows_paid n M owed T) c (seen_bit w j i bs owed ts) listed t (t + first_place (seen_bit w j i bs owed ts) (drop t listed)) h.place tells refl
+              (from_past (seen_bit w j i bs owed ts) t listed (sym e ∙ q));
         }
 
 -- ---- a column
 
-module _ {n c o : ℕ} {M T : Mem} {owed log listed : List ℕ} {s : Late} (h : ColumnIn n c o listed (store M T owed log s)) (inside : Below (count M) listed) where
+module _ {n c o : ℕ} {M T : Mem} {owed log listed : List ℕ} {s : Stage} (h : ColumnIn n c o listed (store M T owed log s)) (inside : Below (count M) listed) where
   abbrev S : Store
   S = store M T owed log s
 
   pub search-in : SearchIn n c s.t M owed T listed
   search-in = record { owing = h.shape.owing; blank = h.shape.blank; inside = inside; place = h.place; c-in = h.c-in }
 
-  module _ {r : ℕ} (F : Found n c s.t M owed T listed r) (extra : List ℕ) where
+  module _ (extra : List ℕ) where
     abbrev column-of : Run Row → Reduced Row
     column-of = column_c (bit_row n) (mul_row n) (capacity log) listed extra c
 
-    by : (q : Option ℕ) → first (bit_row n) (row_of (mul_row n) (late_of n S)) c (drop s.t listed) ≡ q
+    by : (q : math.Option ℕ) → first (bit_row n) (row_of (mul_row n) (late_of n S)) c (drop s.t listed) ≡ q
         → column_by_c (bit_row n) (mul_row n) (capacity log) listed extra c q (settle (mul_row n) (late_of n S)) ≡ column_c (bit_row n) (mul_row n) (capacity log) listed extra c (settle (mul_row n) (late_of n S))
     unfolding column_c settle
     by q e = sym (ap (λ x. column_by_c (bit_row n) (mul_row n) (capacity log) listed extra c x (settle (mul_row n) (late_of n S))) e)
 
-    pub column-none : length listed ≤ r → Runs n (Within block_pivots) (column_c (bit_row n) (mul_row n) (capacity log) listed extra c) (store M T owed log s) (store M T owed log s)
+    pub column-none : {r : Option ℕ} → Found n c s.t M owed T listed r → r ≡ None → Runs n (Within block_pivots) (column_c (bit_row n) (mul_row n) (capacity log) listed extra c) (store M T owed log s) (store M T owed log s)
     unfolding column_by_c
-    column-none l =
+    column-none F l =
         record {
           meets = goes (late_of n S) (held-going n S h.going) (sym (by none (F.nowhere l))) (record { few = omega (arith, h.space.few); small = h.small });
           carries = carries-none h.shape;
         }
 
-    module _ (l : r < length listed) where
+    module _ {r : ℕ} (F : FoundAt n c s.t M owed T listed r) where
       abbrev p : ℕ
       p = get_or listed s.t 0
 
       pub in_list : s.t < length listed
-      in_list = omega (arith, F.from)
+      in_list = omega (arith, F.from, F.inside)
 
       pub pivot-in : PivotIn n c (get_or listed s.t 0) (get_or listed r 0) o (store M T owed log s)
       pivot-in =
           record {
-            ready = record { shape = h.shape; going = h.going; small = h.small; p-in = inside s.t in_list; f-in = inside r l };
+            ready = record { shape = h.shape; going = h.going; small = h.small; p-in = inside s.t in_list; f-in = inside r F.inside };
             finds =
                 record {
                   rest = drop (suc s.t) listed;
-                  found = found_left (bit_row n) (mul_row n) listed listed c s.t (get_or listed r 0) (rows_paid n M owed T) (F.there l);
+                  found = found_left (bit_row n) (mul_row n) listed listed c s.t (get_or listed r 0) (rows_paid n M owed T) F.there;
                 };
             space = h.space;
             c-in = h.c-in;
           }
 
-      module _ {M' T' : Mem} {owed' log' : List ℕ} {s' : Late}
+      module _ {M' T' : Mem} {owed' log' : List ℕ} {s' : Stage}
           (D : Runs n (Clearing (bit_row n) (mul_row n) c (get_or listed s.t 0) s.g) (pivot_c (bit_row n) (mul_row n) (capacity log) (listed ++ extra) c (get_or listed s.t 0) (get_or listed r 0))
           (store M T owed log s) (store M' T' owed' log' s')) where
         abbrev S'' : Store
@@ -143,7 +150,7 @@ module _ {n c o : ℕ} {M T : Mem} {owed log listed : List ℕ} {s : Late} (h : 
         by-pivot : and_then (pivot_c (bit_row n) (mul_row n) (capacity log) (listed ++ extra) c (get_or listed s.t 0) (get_or listed r 0) (settle (mul_row n) (late_of n S))) (λ q. done (counted q))
             ≡ column_c (bit_row n) (mul_row n) (capacity log) listed extra c (settle (mul_row n) (late_of n S))
         unfolding column_by_c settle
-        by-pivot = by (some (get_or listed r 0)) (F.there l)
+        by-pivot = by (some (get_or listed r 0)) F.there
 
         -- the same memory, with t counted up or not
         at-t : (b : Bool) (t' : ℕ) → Carries n (store M T owed log s) (store M' T' owed' log' (record { full = b; entries = s'.entries; t = t'; g = s'.g }))
@@ -161,14 +168,12 @@ module _ {n c o : ℕ} {M T : Mem} {owed log listed : List ℕ} {s : Late} (h : 
             }
 
         pub column-full : s'.full ≡ true
-            → Runs n (Within block_pivots) (column_c (bit_row n) (mul_row n) (capacity log) listed extra c) (store M T owed log s)
-            (store M' T' owed' log' (record { full = true; entries = s'.entries; t = s.t; g = s'.g }))
-        unfolding held_by and_then
+            → Runs n (Within block_pivots) (column_c (bit_row n) (mul_row n) (capacity log) listed extra c) (store M T owed log s) (store M' T' owed' log' s')
+        unfolding and_then
         column-full e =
             record {
-              meets = stops (late_of n (store M' T' owed' log' (record { full = true; entries = s'.entries; t = s.t; g = s'.g }))) refl
-                  (sym by-pivot ∙ ap (λ x. and_then x (λ y. done (counted y))) (runs-stopped D e));
-              carries = at-t true s.t;
+              meets = stops (late_of n S'') (held-stopped n S'' e) (sym by-pivot ∙ ap (λ x. and_then x (λ y. done (counted y))) (runs-stopped D e));
+              carries = D.carries;
             }
 
         pub column-done : s'.full ≡ false
@@ -207,7 +212,7 @@ twice g h = go (dec_lt g 5)
     go (yes l) = let q : 2 ^ g < 2 ^ 5 = pow-lt l in omega arith
     go (no l) = let e : g ≡ 5 = omega arith in omega (arith, ap (λ j. 2 ^ j) e)
 
-module _ {n : ℕ} {T M : Mem} {owed : List ℕ} {s : Late} (h : BeginIn n M owed T s) where
+module _ {n : ℕ} {T M : Mem} {owed : List ℕ} {s : Stage} (h : BeginIn n M owed T s) where
   pub begin-none : s.g < block_pivots → Began n T M owed s M owed s
   begin-none l =
       record {
@@ -242,11 +247,11 @@ module _ {n : ℕ} {T M : Mem} {owed : List ℕ} {s : Late} (h : BeginIn n M owe
         state = λ log t. P.state s.g 0 log t;
       }
 
-module _ {n c : ℕ} {M T : Mem} {owed log listed : List ℕ} {s : Late} (h : StepIn n c listed (store M T owed log s)) where
+module _ {n c : ℕ} {M T : Mem} {owed log listed : List ℕ} {s : Stage} (h : StepIn n c listed (store M T owed log s)) where
   pub begin-in : BeginIn n M owed T s
   begin-in = record { owing = h.shape.owing; small = h.within.small; few = h.within.few; going = h.going }
 
-  module _ {M' : Mem} {owed' : List ℕ} {s' : Late} (B : Began n T M owed s M' owed' s') (whole : count T ≡ table_rows) where
+  module _ {M' : Mem} {owed' : List ℕ} {s' : Stage} (B : Began n T M owed s M' owed' s') (whole : count T ≡ table_rows) where
     began-shape : Shape n (store M' T owed' log s')
     began-shape =
         record {
@@ -302,7 +307,7 @@ start-within log h = record { few = omega arith; small = λ k. omega (arith, h.n
 run-eq : {σ σ' : ℕ → Row} {l : _} (t : ℕ) → σ ≡ σ' → ◌≡◌ {A = Run Row} (record { rows = σ; log = l; t = t }) (record { rows = σ'; log = l; t = t })
 run-eq {σ} {σ'} {l} t p = λ i. record { rows = p i; log = l; t = t }
 
-module _ {n : ℕ} {M₀ T₀ : Mem} {owed₀ log₀ : List ℕ} (h : StartIn n M₀ owed₀ T₀) {I : Lazy Row → Type 0} {f : Run Row → Reduced Row} {M T : Mem} {owed log : List ℕ} {s : Late}
+module _ {n : ℕ} {M₀ T₀ : Mem} {owed₀ log₀ : List ℕ} (h : StartIn n M₀ owed₀ T₀) {I : Lazy Row → Type 0} {f : Run Row → Reduced Row} {M T : Mem} {owed log : List ℕ} {s : Stage}
     (R : Runs n I f (store M₀ T₀ owed₀ log₀ begun) (store M T owed log s)) {M' : Mem} {owed' : List ℕ} (P : PaidAll n M owed T M' owed') where
   began-as : settle (mul_row n) (late_of n (store M₀ T₀ owed₀ log₀ begun)) ≡ run_of n M₀ log₀ start
   unfolding settle run_of

@@ -1,5 +1,5 @@
 -- A row of a set is multiplied by a row of another set: words below i of the target's part are the product's, and all else is as it was (`From`). The part that is
--- read lies before the target's or is it, so word i of it is still the old one when it is its turn. And words copied (`Copying`). Assumes nothing.
+-- read lies before the target's or is it, so word i of it is still the old one when it is its turn. Assumes nothing.
 use mathlib.Core.Path.{◌≡◌, refl, sym, ap, ◌∙◌, subst}
 use mathlib.Core.Logic.{⊎_elim}
 use mathlib.Core.List.{List, ◌++◌}
@@ -17,9 +17,9 @@ use Rattle.products.specs.Leaves.{SameLength, Outside}
 use Rattle.products.specs.declared.Factor.{Factor}
 use Rattle.encoding.proofs.WordLaws.{Fit, xors}
 use Rattle.encoding.proofs.Parts.{length_part, get_d_part, fit-part}
-use Rattle.products.proofs.RowLaws.{Done, done_none, done_more, done_all, length-xors, front_at, front-more, front-all}
+use Rattle.products.proofs.RowLaws.{Done, done_none, done_more, done_all, length-xors, front_at}
 use Rattle.products.proofs.PartLaws.{part-below}
-use Rattle.late.specs.Workers.{RoomBy, MultipliedBy, Copied}
+use Rattle.late.specs.Workers.{RoomBy, MultipliedBy}
 
 part-set : (a w : ℕ) (xs : List ℕ) (i v : ℕ) → i < w → part a (a + w) (set xs (a + i) v) ≡ set (part a (a + w) xs) i v
 part-set a w xs i v h = ap (take (a + w - a)) (drop-set-add a xs i v) ∙ take-set-lt (a + w - a) (drop a xs) i v (omega arith)
@@ -98,38 +98,4 @@ module _ {w d s t : ℕ} {xs₀ zs₀ bx bz : List ℕ} (m : RoomBy w d s t xs�
         here = done_all same q.done (omega arith) (fit-part s (s + w) xs₀ fx) (fit-part s (s + w) zs₀ fz) (fit-part t (t + w) bx gx) (fit-part t (t + w) bz gz) ee en;
         x-rest = q.x-rest;
         z-rest = q.z-rest;
-      }
-
--- ---- words copied
-
-wide : (w a : ℕ) (l : List ℕ) → a + w ≤ length l → length (part a (a + w) l) ≡ w
-wide w a l h = length_part a (a + w) l (omega arith) h ∙ add-sub_cancel_left a w
-
-pub record Copying (w d t : ℕ) (xs₀ ys xs : List ℕ) (i : ℕ) : Type 0 where
-  pub le : i ≤ w
-  pub words : part d (d + w) xs ≡ take i (part t (t + w) ys) ++ drop i (part d (d + w) xs₀)
-  pub rest : Outside d (d + w) xs₀ xs
-
-module _ (w d t : ℕ) (xs₀ ys : List ℕ) (hd : d + w ≤ length xs₀) (ht : t + w ≤ length ys) where
-  pub copy-none : Copying w d t xs₀ ys xs₀ 0
-  copy-none = record { le = zero-le; words = refl; rest = record { long = refl; before = refl; after = refl } }
-
-  pub copy_more : {xs : List ℕ} {i : ℕ} → Copying w d t xs₀ ys xs i → i < w → Copying w d t xs₀ ys (set xs (d + i) (get_or ys (t + i) 0)) (i + 1)
-  copy_more {xs} {i} c h =
-      let v = part t (t + w) ys in
-      record {
-        le = omega arith;
-        words =
-            part-set d w xs i (get_or ys (t + i) 0) h ∙ ap (λ l. set l i (get_or ys (t + i) 0)) c.words ∙ ap (λ x. set (take i v ++ drop i (part d (d + w) xs₀)) i x) (sym (get_d_part t w ys i h))
-            ∙ front-more v (part d (d + w) xs₀) i (omega (arith, wide w t ys ht)) (omega (arith, wide w d xs₀ hd));
-        rest = outside_set i (get_or ys (t + i) 0) c.rest h;
-      }
-
-  pub copy-all : {xs : List ℕ} {i : ℕ} → Copying w d t xs₀ ys xs i → w ≤ i → Copied w d t xs₀ ys xs
-  copy-all {xs} {i} c h =
-      let v = part t (t + w) ys in
-      let e : i ≡ length v = omega (arith, wide w t ys ht, c.le) in
-      record {
-        here = c.words ∙ ap (λ j. take j v ++ drop j (part d (d + w) xs₀)) e ∙ front-all v (part d (d + w) xs₀) (wide w t ys ht ∙ sym (wide w d xs₀ hd));
-        rest = c.rest;
       }

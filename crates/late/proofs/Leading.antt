@@ -29,8 +29,7 @@ use Rattle.reduction.proofs.PauliRows.{rows-laws}
 use Rattle.tabled.specs.Workers.{Lazy, going, stopped, put_at, pay, multiply_l, fitting, lead_l, settle, Meets, Led}
 use Rattle.tabled.proofs.Steps.{pay-small}
 use Rattle.tabled.proofs.Columns.{meets-lead}
-use Rattle.late.specs.declared.clear.Late.{Late}
-use Rattle.late.specs.Workers.{MultipliedBy, RowsBy, RowBy, Paid, Store, store, late_of, held_by, held_of, Shape, Carries, Runs, PutIn, Puts, kept, made, LeadIn, Finds, Makes, lead_by}
+use Rattle.late.specs.Workers.{Stage, MultipliedBy, RowsBy, RowBy, Paid, Store, store, late_of, held_by, held_of, Shape, Carries, Runs, PutIn, Puts, kept, made, LeadIn, Finds, Makes, lead_by}
 use Rattle.late.proofs.View.{keeps-none, keeps_then, room_by, written-by, owing-paid}
 use Rattle.late.proofs.Runs.{held-going, carries-then}
 use Rattle.late.proofs.Turning.{logged-two}
@@ -71,7 +70,7 @@ put-mul : (n : ℕ) (σ : ℕ → Row) (a b : ℕ) → put_at σ a (mul_row n (�
 unfolding put_at mul_at
 put-mul n σ a b = refl
 
-module _ {n k : ℕ} {M T : Mem} {owed log : List ℕ} {s : Late} (sh : Shape n (store M T owed log s)) {M' : Mem} {owed' : List ℕ} (q : Paid n k M owed T M' owed') where
+module _ {n k : ℕ} {M T : Mem} {owed log : List ℕ} {s : Stage} (sh : Shape n (store M T owed log s)) {M' : Mem} {owed' : List ℕ} (q : Paid n k M owed T M' owed') where
   paid-is : late_of n (store M' T owed' log s) ≡ pay (mul_row n) k (late_of n (store M T owed log s))
   paid-is = q.state s.g (pairs (take (s.entries + s.entries) log)) s.t
 
@@ -90,7 +89,7 @@ module _ {n k : ℕ} {M T : Mem} {owed log : List ℕ} {s : Late} (sh : Shape n 
         past = λ _ _. refl;
       }
 
-module _ {n p f : ℕ} {M T : Mem} {owed log : List ℕ} {s : Late} (h : LeadIn n p f (store M T owed log s)) {M' : Mem} {owed' : List ℕ} (q : Paid n f M owed T M' owed') where
+module _ {n p f : ℕ} {M T : Mem} {owed log : List ℕ} {s : Stage} (h : LeadIn n p f (store M T owed log s)) {M' : Mem} {owed' : List ℕ} (q : Paid n f M owed T M' owed') where
   abbrev L : Lazy Row
   L = late_of n (store M T owed log s)
 
@@ -164,7 +163,7 @@ module _ {n p f : ℕ} {M T : Mem} {owed log : List ℕ} {s : Late} (h : LeadIn 
             };
       }
 
-  pub lead-makes : {M'' : Mem} {log' : List ℕ} {r : Late} → Puts n M' log s p f M'' log' r → Makes n (lead_by n (capacity log) p f) (store M T owed log s) (store M'' T owed' log' r)
+  pub lead-makes : {M'' : Mem} {log' : List ℕ} {r : Stage} → Puts n M' log s p f M'' log' r → Makes n (lead_by n (capacity log) p f) (store M T owed log s) (store M'' T owed' log' r)
   lead-makes {M''} {log'} {r} (kept l a b e) =
       subst (λ x. Makes n (lead_by n (capacity log) p f) (store M T owed log s) (store x T owed' log' r)) (sym a)
       (subst (λ x. Makes n (lead_by n (capacity log) p f) (store M T owed log s) (store M' T owed' x r)) (sym b)
@@ -175,7 +174,7 @@ module _ {n p f : ℕ} {M T : Mem} {owed log : List ℕ} {s : Late} (h : LeadIn 
 
 -- ---- the pivot pays first
 
-module _ {n c p f : ℕ} {M T : Mem} {owed log : List ℕ} {s : Late} (h : LeadIn n p f (store M T owed log s)) (F : Finds n c p f (store M T owed log s))
+module _ {n c p f : ℕ} {M T : Mem} {owed log : List ℕ} {s : Stage} (h : LeadIn n p f (store M T owed log s)) (F : Finds n c p f (store M T owed log s))
     {M' : Mem} {owed' : List ℕ} (q : Paid n p M owed T M' owed') where
   abbrev Q : Lazy Row
   Q = late_of n (store M T owed log s)

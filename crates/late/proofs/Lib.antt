@@ -1,3 +1,4 @@
+pub mod Words
 pub mod From
 pub mod View
 pub mod Runs
@@ -5,5 +6,6 @@ pub mod ColumnBits
 pub mod Turning
 pub mod Clearing
 pub mod Leading
+pub mod Places
 pub mod Columning
 pub mod Scratch

@@ -30,8 +30,7 @@ use Rattle.encoding.specs.Ranks.{by_rank}
 use Rattle.encoding.proofs.Exponents.{laid_from, exponent-out}
 use Rattle.reduction.specs.Log.{capacity}
 use Rattle.reduction.specs.Workers.{Below, through, column_c}
-use Rattle.late.specs.declared.Progress.{Progress}
-use Rattle.late.specs.Workers.{table_rows, Blank, Blanks, StartIn, word_bit, ListsIn, Told, it-is, it-is-not, start, Does, Reduces, reduced, kept-all}
+use Rattle.late.specs.Workers.{Come, table_rows, Blank, Blanks, StartIn, word_bit, ListsIn, Told, it-is, it-is-not, start, Does, Reduces, reduced, kept-all}
 use Rattle.late.proofs.ColumnBits.{x-column, z-column}
 
 pub zeros : (m k : ℕ) → get_or (replicate {A = ℕ} m 0) k 0 ≡ 0
@@ -163,7 +162,7 @@ module _ (n : ℕ) (order listed extra : List ℕ) (M : Mem) where
       })
 
 -- where what is asked holds, the columns are done
-pub reduces-does : {n : ℕ} {order listed extra : List ℕ} {M : Mem} {log : List ℕ} {M' : Mem} {log' : List ℕ} {r : Progress} → Reduces n order listed extra M log M' log' r → ListsIn n order listed extra M
+pub reduces-does : {n : ℕ} {order listed extra : List ℕ} {M : Mem} {log : List ℕ} {M' : Mem} {log' : List ℕ} {r : Come} → Reduces n order listed extra M log M' log' r → ListsIn n order listed extra M
     → Does n (through (column_c (bit_row n) (mul_row n) (capacity log) listed extra) order) M log start M' log' r
 reduces-does (reduced h d) q = d
 reduces-does (kept-all h a b c) q = absurd (h q)

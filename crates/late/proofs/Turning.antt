@@ -24,8 +24,7 @@ use Rattle.tabled.specs.Workers.{Lazy, going, stopped, put_at, owe, row_of, sett
 use Rattle.tabled.proofs.Bits.{row-bit}
 use Rattle.tabled.proofs.Columns.{meets-turn}
 use Rattle.tabled.proofs.Steps.{put-here, put_other}
-use Rattle.late.specs.declared.clear.Late.{Late}
-use Rattle.late.specs.Workers.{Store, store, late_of, held_by, held_of, Shape, Carries, Runs, Reads, seen_bit, Sees, OweIn, Owes, TurnIn}
+use Rattle.late.specs.Workers.{Stage, Store, store, late_of, held_by, held_of, Shape, Carries, Runs, Reads, seen_bit, Sees, OweIn, Owes, TurnIn}
 use Rattle.late.proofs.View.{keeps-none, set-put}
 use Rattle.late.proofs.Runs.{held-going, carries-none}
 
@@ -82,17 +81,17 @@ module _ {n c w j i : ℕ} {S : Store} {bs ts : List ℕ} (sh : Shape n S) (hc :
 
 -- ---- a turn
 
-module _ {n c p h : ℕ} {M T : Mem} {owed log : List ℕ} {s : Late} (t : TurnIn n c p h (store M T owed log s)) (k : ℕ) (hk : k < count M) where
+module _ {n c p h : ℕ} {M T : Mem} {owed log : List ℕ} {s : Stage} (t : TurnIn n c p h (store M T owed log s)) (k : ℕ) (hk : k < count M) where
   abbrev j : ℕ
   j = s.g - 1
 
   abbrev L : Lazy Row
   L = late_of n (store M T owed log s)
 
-  abbrev pub Turned : List ℕ → List ℕ → Late → Type 0
+  abbrev pub Turned : List ℕ → List ℕ → Stage → Type 0
   Turned owed' log' r = Runs n (Clearing (bit_row n) (mul_row n) c p (s.g - 1)) (turn_c (bit_row n) (mul_row n) (capacity log) c p k) (store M T owed log s) (store M T owed' log' r)
 
-  turns : (owed' log' : List ℕ) (r : Late) → held_of n (store M T owed' log' r) ≡ turn_l (bit_row n) (mul_row n) (capacity log) c p (s.g - 1) k (late_of n (store M T owed log s))
+  turns : (owed' log' : List ℕ) (r : Stage) → held_of n (store M T owed' log' r) ≡ turn_l (bit_row n) (mul_row n) (capacity log) c p (s.g - 1) k (late_of n (store M T owed log s))
       → Carries n (store M T owed log s) (store M T owed' log' r) → Turned owed' log' r
   turns owed' log' r e K =
       record {
@@ -195,10 +194,10 @@ module _ {n c p h : ℕ} {M T : Mem} {owed log : List ℕ} {s : Late} (t : TurnI
         go false off = omega (arith, t.shape.owing.small k, t.shape.fits)
 
     -- and what it leaves
-    pub turn_owed : {owed' log' : List ℕ} {s' : Late} → s.entries < capacity log → Owes owed log s h p k r owed' log' s' → Turned owed' log' s'
+    pub turn_owed : {owed' log' : List ℕ} {s' : Stage} → s.entries < capacity log → Owes owed log s h p k r owed' log' s' → Turned owed' log' s'
     turn_owed {owed'} {log'} {s'} l O = go r refl
       where
-        moved : (o l' : List ℕ) (s'' : Late) → owed' ≡ o → log' ≡ l' → s' ≡ s'' → Turned o l' s'' → Turned owed' log' s'
+        moved : (o l' : List ℕ) (s'' : Stage) → owed' ≡ o → log' ≡ l' → s' ≡ s'' → Turned o l' s'' → Turned owed' log' s'
         moved o l' s'' a b q T = subst (λ x. Turned x log' s') (sym a) (subst (λ x. Turned o x s') (sym b) (subst (λ x. Turned o l' x) (sym q) T))
 
         go : (b : Bool) → r ≡ b → Turned owed' log' s'

@@ -1,6 +1,6 @@
 -- What the functions ask and leave that do the reduction rule late: nothing here need be believed, since the public contract says what is left as the rule's own
 -- run (`Does`). The row set, the entries in the log, the run they stand for; the table and what rows owe. Assumes nothing.
-use Rattle.std.specs.Prelude.{◌≡◌, ◌⊎◌, Bool, true, false, cond, List, ◌∷◌, ℕ, ◌+◌, ◌-◌, ◌*◌, ◌/◌, ◌%◌, ◌^◌, ◌≤◌, ◌<◌, length, get_or, take, drop, set}
+use Rattle.std.specs.Prelude.{◌≡◌, ◌⊎◌, Bool, true, false, cond, List, ◌∷◌, ℕ, ◌+◌, ◌-◌, ◌*◌, ◌/◌, ◌%◌, ◌^◌, ◌≤◌, ◌<◌, ltb, length, get_or, take, drop, set, Option, Some, None, Result, Ok, Err, ⊤}
 use Rattle.std.specs.Bool.{xor}
 use Rattle.std.proofs.Math.Option.{none, some}
 use Rattle.pauli.specs.Row.{Row, mul_row, bit_row}
@@ -12,10 +12,49 @@ use Rattle.products.specs.declared.Factor.{Factor}
 use Rattle.reduction.specs.Rule.{Entry, Run, first}
 use Rattle.reduction.specs.Log.{pairs, capacity}
 use Rattle.reduction.specs.Capacity.{Reduced, done, full}
-use Rattle.reduction.specs.Workers.{through, column_c, Below}
+use Rattle.reduction.specs.Workers.{through, column_c, first_place, Below}
 use Rattle.tabled.specs.Workers.{Lazy, Held, going, stopped, paid, row_of, settle, pay, Doubles, multiply_l, fitting, Meets, Led, Clearing, Within}
 use Rattle.late.specs.declared.Progress.{Progress}
 use Rattle.late.specs.declared.clear.Late.{Late}
+
+-- ---- how far a run has come
+
+-- whether its log is full, the entries in it, the pivots
+pub record Come : Type 0 where
+  pub full : Bool
+  pub entries : ℕ
+  pub t : ℕ
+
+-- a run that goes on
+abbrev pub going_on : Progress → Come
+going_on s = record { full = false; entries = s.entries; t = s.t }
+
+-- what a run gives: an error where the log is full
+abbrev pub come : Result Progress Progress → Come
+come (Ok s) = record { full = false; entries = s.entries; t = s.t }
+come (Err s) = record { full = true; entries = s.entries; t = s.t }
+
+-- the same, with the pivots of the block
+pub record Stage : Type 0 where
+  pub full : Bool
+  pub entries : ℕ
+  pub t : ℕ
+  pub g : ℕ
+
+abbrev pub on : Late → Stage
+on s = record { full = false; entries = s.entries; t = s.t; g = s.g }
+
+abbrev pub at_of : Result Late Late → Stage
+at_of (Ok s) = record { full = false; entries = s.entries; t = s.t; g = s.g }
+at_of (Err s) = record { full = true; entries = s.entries; t = s.t; g = s.g }
+
+abbrev pub come_of : Stage → Come
+come_of s = record { full = s.full; entries = s.entries; t = s.t }
+
+-- where the run goes on, its pivots are among the first m listed rows
+abbrev pub Among : ℕ → Result Late Late → Type 0
+Among m (Ok s) = s.t ≤ m
+Among m (Err s) = ⊤
 
 -- ---- a run in memory
 
@@ -28,22 +67,22 @@ pub record Keeps (n : ℕ) (M₀ M : Mem) : Type 0 where
   pub many : count M ≡ count M₀
 
 -- the run that the memory, the log and the progress stand for
-unfoldable pub run_of : ℕ → Mem → List ℕ → Progress → Run Row
+unfoldable pub run_of : ℕ → Mem → List ℕ → Come → Run Row
 run_of n M log s = record { rows = rows_of n M; log = pairs (take (s.entries + s.entries) log); t = s.t }
 
 unfoldable pub outcome : Bool → Run Row → Reduced Row
 outcome false r = done r
 outcome true r = full r.log r.rows
 
-abbrev pub result_of : ℕ → Mem → List ℕ → Progress → Reduced Row
+abbrev pub result_of : ℕ → Mem → List ℕ → Come → Reduced Row
 result_of n M log s = outcome s.full (run_of n M log s)
 
 -- the start of a run
-abbrev pub start : Progress
+abbrev pub start : Come
 start = record { full = false; entries = 0; t = 0 }
 
 -- A piece f of a run was done in memory: it began at M₀, log₀ and s₀ and has come to M, log and s. Units past the last entry are as before.
-pub record Does (n : ℕ) (f : Run Row → Reduced Row) (M₀ : Mem) (log₀ : List ℕ) (s₀ : Progress) (M : Mem) (log : List ℕ) (s : Progress) : Type 0 where
+pub record Does (n : ℕ) (f : Run Row → Reduced Row) (M₀ : Mem) (log₀ : List ℕ) (s₀ : Come) (M : Mem) (log : List ℕ) (s : Come) : Type 0 where
   pub result : result_of n M log s ≡ f (run_of n M₀ log₀ s₀)
   pub grows : s₀.entries ≤ s.entries
   pub room : s.entries + s.entries ≤ length log
@@ -161,9 +200,9 @@ pub record Store : Type 0 where
   pub table : Mem
   pub owed : List ℕ
   pub log : List ℕ
-  pub at : Late
+  pub at : Stage
 
-abbrev pub store : Mem → Mem → List ℕ → List ℕ → Late → Store
+abbrev pub store : Mem → Mem → List ℕ → List ℕ → Stage → Store
 store M T owed log s = record { rows = M; table = T; owed = owed; log = log; at = s }
 
 abbrev pub entries_of : Store → ℕ
@@ -217,6 +256,10 @@ word_bit w j i bs k = odd (get_or bs (k * w + j) 0 / 2 ^ i)
 abbrev pub seen_bit : ℕ → ℕ → ℕ → List ℕ → List ℕ → List ℕ → ℕ → Bool
 seen_bit w j i bs owed ts k = xor (word_bit w j i bs k) (word_bit w j i ts (get_or owed k 0))
 
+-- the first place of the list, from place t on, whose number passes the test
+abbrev pub place_from : (ℕ → Bool) → ℕ → List ℕ → Option ℕ
+place_from f t l = let p = t + first_place f (drop t l) in cond (ltb p (length l)) (Some p) None
+
 -- that bit is column c
 pub record Sees (n c w j i : ℕ) (M T : Mem) (bs ts : List ℕ) : Type 0 where
   pub bit : i < 64
@@ -226,14 +269,19 @@ pub record Sees (n c w j i : ℕ) (M T : Mem) (bs ts : List ℕ) : Type 0 where
   pub of_row : (k : ℕ) → k < count M → word_bit w j i bs k ≡ bit_row n (rows_of n M k) c
   pub of_entry : (k : ℕ) → k < count T → word_bit w j i ts k ≡ bit_row n (rows_of n T k) c
 
+-- Column c is bit i of word j of the w words of a row: in the words bs and ts, which are X of rows and table below n, and Z from n on.
+pub data Placed (n c : ℕ) (xs zs txs tzs bs ts : List ℕ) (w j i : ℕ) : Type 0 where
+  in-x : c < n → bs ≡ xs → ts ≡ txs → w ≡ words_of n → j ≡ c / 64 → i ≡ c % 64 → Placed n c xs zs txs tzs bs ts w j i
+  in-z : n ≤ c → bs ≡ zs → ts ≡ tzs → w ≡ words_of n → j ≡ (c - n) / 64 → i ≡ (c - n) % 64 → Placed n c xs zs txs tzs bs ts w j i
+
 -- the log has room for an entry more, and the byte of row k for the pivot's bit, if it comes to owe it
-pub record OweIn (owed log : List ℕ) (s : Late) (h k : ℕ) (b : Bool) : Type 0 where
+pub record OweIn (owed log : List ℕ) (s : Stage) (h k : ℕ) (b : Bool) : Type 0 where
   pub room : s.entries < capacity log
   pub k-in : k < length owed
   pub small : get_or owed k 0 + cond b h 0 < 256
 
 -- where b holds, the entry is there, and the row owes the pivot; else everything is as it was
-pub record Owes (owed log : List ℕ) (s : Late) (h p k : ℕ) (b : Bool) (owed' log' : List ℕ) (r : Late) : Type 0 where
+pub record Owes (owed log : List ℕ) (s : Stage) (h p k : ℕ) (b : Bool) (owed' log' : List ℕ) (r : Stage) : Type 0 where
   pub owed-is : owed' ≡ set owed k (get_or owed k 0 + cond b h 0)
   pub log_is : log' ≡ set (set log (s.entries + s.entries) (cond b k (get_or log (s.entries + s.entries) 0))) (s.entries + s.entries + 1)
       (cond b p (get_or log (s.entries + s.entries + 1) 0))
@@ -259,14 +307,14 @@ pub record FreezeIn (n c p o : ℕ) (S : Store) : Type 0 where
 
 -- ---- the pivot and the row found
 
-pub record PutIn (n : ℕ) (M : Mem) (log : List ℕ) (s : Late) (a b : ℕ) : Type 0 where
+pub record PutIn (n : ℕ) (M : Mem) (log : List ℕ) (s : Stage) (a b : ℕ) : Type 0 where
   pub rows : Sound n M
   pub room : s.entries + s.entries ≤ length log
   pub a_in : a < count M
   pub b-in : b < count M
 
 -- full, and nothing is done; or row a is multiplied by row b, and the entry is there
-pub data Puts (n : ℕ) (M : Mem) (log : List ℕ) (s : Late) (a b : ℕ) (M' : Mem) (log' : List ℕ) (r : Late) : Type 0 where
+pub data Puts (n : ℕ) (M : Mem) (log : List ℕ) (s : Stage) (a b : ℕ) (M' : Mem) (log' : List ℕ) (r : Stage) : Type 0 where
   kept : capacity log ≤ s.entries → M' ≡ M → log' ≡ log → r ≡ record { full = true; entries = s.entries; t = s.t; g = s.g } → Puts n M log s a b M' log' r
   made : s.entries < capacity log → RowBy (words_of n) a a b M M M' → log' ≡ set (set log (s.entries + s.entries) a) (s.entries + s.entries + 1) b
       → r ≡ record { full = false; entries = s.entries + 1; t = s.t; g = s.g } → Puts n M log s a b M' log' r
@@ -318,11 +366,16 @@ pub record SearchIn (n c t : ℕ) (M : Mem) (owed : List ℕ) (T : Mem) (listed 
 abbrev pub rows_paid : ℕ → Mem → List ℕ → Mem → ℕ → Row
 rows_paid n M owed T k = paid (mul_row n) (rows_of n T) (rows_of n M k) (get_or owed k 0)
 
--- r is the place of the first listed row, from place t on, with column c set; past the end where there is none
-pub record Found (n c t : ℕ) (M : Mem) (owed : List ℕ) (T : Mem) (listed : List ℕ) (r : ℕ) : Type 0 where
+-- place r of the list, t or past it, is that of the first row from place t on with column c set
+pub record FoundAt (n c t : ℕ) (M : Mem) (owed : List ℕ) (T : Mem) (listed : List ℕ) (r : ℕ) : Type 0 where
   pub from : t ≤ r
-  pub there : r < length listed → first (bit_row n) (rows_paid n M owed T) c (drop t listed) ≡ some (get_or listed r 0)
-  pub nowhere : length listed ≤ r → first (bit_row n) (rows_paid n M owed T) c (drop t listed) ≡ none
+  pub inside : r < length listed
+  pub there : first (bit_row n) (rows_paid n M owed T) c (drop t listed) ≡ some (get_or listed r 0)
+
+-- the place of the first listed row, from place t on, with column c set
+pub record Found (n c t : ℕ) (M : Mem) (owed : List ℕ) (T : Mem) (listed : List ℕ) (r : Option ℕ) : Type 0 where
+  pub at : (k : ℕ) → r ≡ Some k → FoundAt n c t M owed T listed k
+  pub nowhere : r ≡ None → first (bit_row n) (rows_paid n M owed T) c (drop t listed) ≡ none
 
 pub record ColumnIn (n c o : ℕ) (listed : List ℕ) (S : Store) : Type 0 where
   pub shape : Shape n S
@@ -334,14 +387,14 @@ pub record ColumnIn (n c o : ℕ) (listed : List ℕ) (S : Store) : Type 0 where
 
 -- ---- blocks
 
-pub record BeginIn (n : ℕ) (M : Mem) (owed : List ℕ) (T : Mem) (s : Late) : Type 0 where
+pub record BeginIn (n : ℕ) (M : Mem) (owed : List ℕ) (T : Mem) (s : Stage) : Type 0 where
   pub owing : Owing n M owed T
   pub small : (k : ℕ) → get_or owed k 0 < 2 ^ s.g
   pub few : s.g ≤ block_pivots
   pub going : s.full ≡ false
 
 -- a block that has room for a pivot, and memory stands for the same
-pub record Began (n : ℕ) (T M₀ : Mem) (owed₀ : List ℕ) (s₀ : Late) (M : Mem) (owed : List ℕ) (s : Late) : Type 0 where
+pub record Began (n : ℕ) (T M₀ : Mem) (owed₀ : List ℕ) (s₀ : Stage) (M : Mem) (owed : List ℕ) (s : Stage) : Type 0 where
   pub keeps : Keeps n M₀ M
   pub owing : Owing n M owed T
   pub owed-len : length owed ≡ length owed₀
@@ -365,7 +418,7 @@ pub record StartIn (n : ℕ) (M : Mem) (owed : List ℕ) (T : Mem) : Type 0 wher
   pub nothing : (k : ℕ) → get_or owed k 0 ≡ 0
   pub blank : (q : ℕ) → q < n + n → bit_row n (rows_of n T 0) q ≡ false
 
-abbrev pub begun : Late
+abbrev pub begun : Stage
 begun = record { full = false; entries = 0; t = 0; g = 0 }
 
 -- ---- the scratch arrays, and the whole
@@ -396,7 +449,7 @@ pub data Told (P : Type 0) (r : Bool) : Type 0 where
   it-is-not : r ≡ false → (P → ⊥) → Told P r
 
 -- The columns of the order are done; where what is asked does not hold, nothing is done.
-pub data Reduces (n : ℕ) (order listed extra : List ℕ) (M : Mem) (log : List ℕ) (M' : Mem) (log' : List ℕ) (r : Progress) : Type 0 where
+pub data Reduces (n : ℕ) (order listed extra : List ℕ) (M : Mem) (log : List ℕ) (M' : Mem) (log' : List ℕ) (r : Come) : Type 0 where
   reduced : ListsIn n order listed extra M → Does n (through (column_c (bit_row n) (mul_row n) (capacity log) listed extra) order) M log start M' log' r
       → Reduces n order listed extra M log M' log' r
   kept-all : (ListsIn n order listed extra M → ⊥) → M' ≡ M → log' ≡ log → r ≡ start → Reduces n order listed extra M log M' log' r

@@ -1,74 +1,93 @@
-// A column cleared late: rows with the bit set come to owe the pivot, and the entries are logged.
+// A column cleared late: rows with the bit set come to owe the pivot, and the entries are logged. The rows and the table go slice by slice, since callers
+// hold these slices to write them; what is only read goes as one value.
 ghost use Rattle.encoding.specs.Set.{mem_of};
-ghost use Rattle.std.specs.Prelude.{◌≡◌, cond, ◌++◌, ◌+◌, ◌-◌, ◌^◌, ◌≤◌, ◌<◌, length, drop};
+ghost use Rattle.std.specs.Prelude.{◌≡◌, cond, ◌++◌, ◌+◌, ◌-◌, ◌^◌, ◌≤◌, ◌<◌, length};
 ghost use Rattle.pauli.specs.Row.{mul_row, bit_row};
 ghost use Rattle.reduction.specs.Log.{capacity};
-ghost use Rattle.reduction.specs.Workers.{through, turn_c, first_place, Below};
+ghost use Rattle.reduction.specs.Workers.{through, turn_c, Below};
 ghost use Rattle.tabled.specs.Workers.{Clearing};
-ghost use Rattle.late.specs.Workers.{table_rows, store, Runs, Reads, Sees, seen_bit, OweIn, Owes, TurnIn, FreezeIn};
+ghost use Rattle.late.specs.Workers.{table_rows, on, at_of, Placed, store, Runs, Reads, Sees, seen_bit, place_from, OweIn, Owes, TurnIn, FreezeIn};
 
+use crate::Lists;
 use crate::rows::double;
 use pauli::RowNumber;
 
-// How far a run has come: whether its log is full, the entries in it, the pivots, and the pivots of the block.
+// How far a run has come: the entries in its log, the pivots, and the pivots of the block. It is the error of a step that finds the log full, with rows
+// and log as after the entries that fitted.
 #[derive(Drop)]
 pub struct Late {
-    pub full: bool,
     pub entries: usize,
     pub t: usize,
     pub g: usize,
 }
 
-// Bit i of word j of row k with what it owes.
-fn true_bit(b: &[u64], owed: &[u8], tb: &[u64], w: usize, j: usize, i: usize, k: usize) -> bool
-    requires { Reads w j i b.now owed.now tb.now × (k < length owed.now) }
-    ensures { result ≡ seen_bit w j i b.now owed.now tb.now k }
-{
-    let o = owed[k] as usize;
-    let v = b[k * w + j] ^ tb[o * w + j];
-    (v >> i) % 2 == 1
-}
-
-// The first place of the list, from t on, of a row with that bit set; the end of the list if there is none.
-pub(crate) fn find(
-    b: &[u64],
-    owed: &[u8],
-    tb: &[u64],
-    listed: &[u16],
+// Where a column is read: bit i of word j of the w words of each row, in b for the rows and in tb for the table.
+#[derive(Clone, Copy)]
+pub(crate) struct Column<'a> {
+    b: &'a [u64],
+    tb: &'a [u64],
     w: usize,
     j: usize,
     i: usize,
-    t: usize,
-) -> usize
-    requires { Reads w j i b.now owed.now tb.now × Below (length owed.now) listed.now }
-    ensures { result ≡ t
-        + first_place (seen_bit w j i b.now owed.now tb.now) (drop t listed.now) }
+}
+
+// Column c: X of qubit c, or from n on Z of qubit c - n.
+pub(crate) fn column_at<'a>(
+    n: usize,
+    x: &'a [u64],
+    z: &'a [u64],
+    tx: &'a [u64],
+    tz: &'a [u64],
+    c: usize,
+) -> Column<'a>
+    ensures { Placed n c x.now z.now tx.now tz.now result.b.now result.tb.now result.w result.j result.i }
 {
-    let mut a = t;
-    while a < listed.len() {
-        let k = listed[a] as usize;
-        if true_bit(b, owed, tb, w, j, i, k) {
-            return a;
-        }
-        a += 1;
+    let w = encoding::words(n);
+    if c < n {
+        return Column {
+            b: x,
+            tb: tx,
+            w,
+            j: c / 64,
+            i: c % 64,
+        };
     }
-    a
+    let q = c - n;
+    Column {
+        b: z,
+        tb: tz,
+        w,
+        j: q / 64,
+        i: q % 64,
+    }
 }
 
-// One of two numbers, with no jump: whether a row has a bit no processor foresees.
-fn choose(b: bool, on: u16, off: u16) -> u16
-    ensures { result ≡ cond b on off }
+// The column of row k with what it owes.
+fn true_bit(col: Column, owed: &[u8], k: usize) -> bool
+    requires { Reads col.w col.j col.i col.b.now owed.now col.tb.now × (k < length owed.now) }
+    ensures { result ≡ seen_bit col.entry.w col.entry.j col.entry.i col.entry.b.now owed.now col.entry.tb.now k }
 {
-    if b { on } else { off }
+    let o = owed[k] as usize;
+    let v = col.b[k * col.w + col.j] ^ col.tb[o * col.w + col.j];
+    (v >> col.i) % 2 == 1
 }
 
-fn choose_byte(b: bool, on: u8, off: u8) -> u8
-    ensures { result ≡ cond b on off }
+// The first place of the list, from t on, of a row with the column set.
+pub(crate) fn find(col: Column, owed: &[u8], listed: &[u16], t: usize) -> Option<usize>
+    requires { Reads col.w col.j col.i col.b.now owed.now col.tb.now × Below (length owed.now) listed.now }
+    ensures { result ≡ place_from (seen_bit col.entry.w col.entry.j col.entry.i col.entry.b.now owed.now col.entry.tb.now) t listed.now }
 {
-    if b { on } else { off }
+    for a in t..listed.len() {
+        let k = listed[a] as usize;
+        if true_bit(col, owed, k) {
+            return Some(a);
+        }
+    }
+    None
 }
 
-fn choose_place(b: bool, on: usize, off: usize) -> usize
+// One of two values, with no jump: whether a row has a bit no processor foresees.
+fn choose<T: Copy>(b: bool, on: T, off: T) -> T
     ensures { result ≡ cond b on off }
 {
     if b { on } else { off }
@@ -76,28 +95,35 @@ fn choose_place(b: bool, on: usize, off: usize) -> usize
 
 // Where b holds, row k comes to owe the pivot, whose bit is h, and (k, pivot) is logged; else what is written is what was there.
 fn owe(owed: &mut [u8], log: &mut [u16], s: Late, h: u8, pivot: u16, k: u16, b: bool) -> Late
-    requires { OweIn owed.old log.old s h k b }
-    ensures { Owes owed.old log.old s h pivot k b owed.new log.new result }
+    requires { OweIn owed.old log.old (on s) h k b }
+    ensures { Owes owed.old log.old (on s) h pivot k b owed.new log.new (on result) }
 {
     let e = s.entries;
     let t = s.t;
     let g = s.g;
     let q = k as usize;
-    owed[q] = owed[q] + choose_byte(b, h, 0);
+    owed[q] = owed[q] + choose(b, h, 0);
     let m = e + e;
     let target = log[m];
     let source = log[m + 1];
     log[m] = choose(b, k, target);
     log[m + 1] = choose(b, pivot, source);
     Late {
-        full: false,
-        entries: choose_place(b, e + 1, e),
+        entries: choose(b, e + 1, e),
         t,
         g,
     }
 }
 
-// Row k, if it is another than the pivot and has column c set, comes to owe the pivot, whose bit is h. Column c is bit i of word j in b and tb.
+// The pivot whose column is being cleared: its row, its column, and its bit among the pivots of the block.
+#[derive(Clone, Copy)]
+struct Pivot {
+    row: u16,
+    c: usize,
+    h: u8,
+}
+
+// Row k, if it is another than the pivot and has the column set, comes to owe the pivot. The column is read at col.
 fn turn(
     n: usize,
     m: usize,
@@ -109,46 +135,35 @@ fn turn(
     tz: &[u64],
     tp: &[u64],
     log: &mut [u16],
-    b: &[u64],
-    tb: &[u64],
-    w: usize,
-    j: usize,
-    i: usize,
+    col: Column,
     s: Late,
-    h: u8,
-    c: usize,
-    pivot: u16,
+    by: Pivot,
     k: u16,
-) -> Late
-    requires turn_in { TurnIn n c pivot h (store (mem_of m x.now z.now p.now) (mem_of table_rows tx.now tz.now tp.now) owed.old log.old s) }
-    requires sees { Sees n c w j i (mem_of m x.now z.now p.now) (mem_of table_rows tx.now tz.now tp.now) b.now tb.now × (k < m) }
-    ensures { Runs n (Clearing (bit_row n) (mul_row n) c pivot (s.g - 1))
-        (turn_c (bit_row n) (mul_row n) (capacity log.old) c pivot k)
-        (store (mem_of m x.now z.now p.now) (mem_of table_rows tx.now tz.now tp.now) owed.old log.old s)
-        (store (mem_of m x.now z.now p.now) (mem_of table_rows tx.now tz.now tp.now) owed.new log.new result) }
+) -> Result<Late, Late>
+    requires turn_in { TurnIn n by.c by.row by.h
+        (store (mem_of m x.now z.now p.now) (mem_of table_rows tx.now tz.now tp.now) owed.old log.old (on s)) }
+    requires sees { Sees n by.c col.w col.j col.i (mem_of m x.now z.now p.now) (mem_of table_rows tx.now tz.now tp.now) col.b.now col.tb.now
+        × (k < m) }
+    ensures { Runs n (Clearing (bit_row n) (mul_row n) by.c by.row (s.g - 1))
+        (turn_c (bit_row n) (mul_row n) (capacity log.old) by.c by.row k)
+        (store (mem_of m x.now z.now p.now) (mem_of table_rows tx.now tz.now tp.now) owed.old log.old (on s))
+        (store (mem_of m x.now z.now p.now) (mem_of table_rows tx.now tz.now tp.now) owed.new log.new (at_of result)) }
 {
-    if k == pivot {
-        return s;
+    if k == by.row {
+        return Ok(s);
     }
-    let on = true_bit(b, owed, tb, w, j, i, k as usize);
+    let on = true_bit(col, owed, k as usize);
     let e = s.entries;
-    let t = s.t;
-    let g = s.g;
     if e < log.len() / 2 {
-        return owe(owed, log, s, h, pivot, k, on);
+        return Ok(owe(owed, log, s, by.h, by.row, k, on));
     }
     if on {
-        return Late {
-            full: true,
-            entries: e,
-            t,
-            g,
-        };
+        return Err(s);
     }
-    s
+    Ok(s)
 }
 
-// Each row of the list other than the pivot with column c set comes to owe the pivot, as long as entries fit.
+// Each row of the list other than the pivot with the column set comes to owe the pivot, as long as entries fit.
 fn clear(
     n: usize,
     m: usize,
@@ -160,36 +175,25 @@ fn clear(
     tz: &[u64],
     tp: &[u64],
     log: &mut [u16],
-    b: &[u64],
-    tb: &[u64],
+    col: Column,
     list: &[u16],
-    w: usize,
-    j: usize,
-    i: usize,
     s: Late,
-    h: u8,
-    c: usize,
-    pivot: u16,
-) -> Late
-    requires turn_in { TurnIn n c pivot h (store (mem_of m x.now z.now p.now) (mem_of table_rows tx.now tz.now tp.now) owed.old log.old s) }
-    requires sees { Sees n c w j i (mem_of m x.now z.now p.now) (mem_of table_rows tx.now tz.now tp.now) b.now tb.now × Below m list.now }
-    ensures { Runs n (Clearing (bit_row n) (mul_row n) c pivot (s.g - 1))
-        (through (turn_c (bit_row n) (mul_row n) (capacity log.old) c pivot) list.now)
-        (store (mem_of m x.now z.now p.now) (mem_of table_rows tx.now tz.now tp.now) owed.old log.old s)
-        (store (mem_of m x.now z.now p.now) (mem_of table_rows tx.now tz.now tp.now) owed.new log.new result) }
+    by: Pivot,
+) -> Result<Late, Late>
+    requires turn_in { TurnIn n by.c by.row by.h
+        (store (mem_of m x.now z.now p.now) (mem_of table_rows tx.now tz.now tp.now) owed.old log.old (on s)) }
+    requires sees { Sees n by.c col.w col.j col.i (mem_of m x.now z.now p.now) (mem_of table_rows tx.now tz.now tp.now) col.b.now col.tb.now
+        × Below m list.now }
+    ensures { Runs n (Clearing (bit_row n) (mul_row n) by.c by.row (s.g - 1))
+        (through (turn_c (bit_row n) (mul_row n) (capacity log.old) by.c by.row) list.now)
+        (store (mem_of m x.now z.now p.now) (mem_of table_rows tx.now tz.now tp.now) owed.old log.old (on s))
+        (store (mem_of m x.now z.now p.now) (mem_of table_rows tx.now tz.now tp.now) owed.new log.new (at_of result)) }
 {
     let mut r = s;
-    let mut a = 0;
-    while a < list.len() {
-        r = turn(
-            n, m, x, z, p, owed, tx, tz, tp, log, b, tb, w, j, i, r, h, c, pivot, list[a],
-        );
-        if r.full {
-            return r;
-        }
-        a += 1;
+    for &k in list {
+        r = turn(n, m, x, z, p, owed, tx, tz, tp, log, col, r, by, k)?;
     }
-    r
+    Ok(r)
 }
 
 // The listed and then the extra rows are cleared.
@@ -204,38 +208,55 @@ fn clear_both(
     tz: &[u64],
     tp: &[u64],
     log: &mut [u16],
-    b: &[u64],
-    tb: &[u64],
-    listed: &[u16],
-    extra: &[u16],
-    w: usize,
-    j: usize,
-    i: usize,
+    col: Column,
+    lists: &Lists<'_>,
     s: Late,
-    h: u8,
-    c: usize,
-    pivot: u16,
-) -> Late
-    requires turn_in { TurnIn n c pivot h (store (mem_of m x.now z.now p.now) (mem_of table_rows tx.now tz.now tp.now) owed.old log.old s) }
-    requires sees { Sees n c w j i (mem_of m x.now z.now p.now) (mem_of table_rows tx.now tz.now tp.now) b.now tb.now
-        × Below m listed.now × Below m extra.now }
-    ensures { Runs n (Clearing (bit_row n) (mul_row n) c pivot (s.g - 1))
-        (through (turn_c (bit_row n) (mul_row n) (capacity log.old) c pivot) (listed.now ++ extra.now))
-        (store (mem_of m x.now z.now p.now) (mem_of table_rows tx.now tz.now tp.now) owed.old log.old s)
-        (store (mem_of m x.now z.now p.now) (mem_of table_rows tx.now tz.now tp.now) owed.new log.new result) }
+    by: Pivot,
+) -> Result<Late, Late>
+    requires turn_in { TurnIn n by.c by.row by.h
+        (store (mem_of m x.now z.now p.now) (mem_of table_rows tx.now tz.now tp.now) owed.old log.old (on s)) }
+    requires sees { Sees n by.c col.w col.j col.i (mem_of m x.now z.now p.now) (mem_of table_rows tx.now tz.now tp.now) col.b.now col.tb.now
+        × Below m lists.now.listed.now × Below m lists.now.extra.now }
+    ensures { Runs n (Clearing (bit_row n) (mul_row n) by.c by.row (s.g - 1))
+        (through (turn_c (bit_row n) (mul_row n) (capacity log.old) by.c by.row) (lists.now.listed.now ++ lists.now.extra.now))
+        (store (mem_of m x.now z.now p.now) (mem_of table_rows tx.now tz.now tp.now) owed.old log.old (on s))
+        (store (mem_of m x.now z.now p.now) (mem_of table_rows tx.now tz.now tp.now) owed.new log.new (at_of result)) }
 {
     let r = clear(
-        n, m, x, z, p, owed, tx, tz, tp, log, b, tb, listed, w, j, i, s, h, c, pivot,
-    );
-    if r.full {
-        return r;
-    }
+        n,
+        m,
+        x,
+        z,
+        p,
+        owed,
+        tx,
+        tz,
+        tp,
+        log,
+        col,
+        lists.listed,
+        s,
+        by,
+    )?;
     clear(
-        n, m, x, z, p, owed, tx, tz, tp, log, b, tb, extra, w, j, i, r, h, c, pivot,
+        n,
+        m,
+        x,
+        z,
+        p,
+        owed,
+        tx,
+        tz,
+        tp,
+        log,
+        col,
+        lists.extra,
+        r,
+        by,
     )
 }
 
-// The same, with the word and the bit at which column c lies.
+// The same, with the column found.
 fn clear_column(
     n: usize,
     m: usize,
@@ -247,70 +268,20 @@ fn clear_column(
     tz: &[u64],
     tp: &[u64],
     log: &mut [u16],
-    listed: &[u16],
-    extra: &[u16],
+    lists: &Lists<'_>,
     s: Late,
-    h: u8,
-    c: usize,
-    pivot: u16,
-) -> Late
-    requires turn_in { TurnIn n c pivot h (store (mem_of m x.now z.now p.now) (mem_of table_rows tx.now tz.now tp.now) owed.old log.old s) }
-    requires below { Below m listed.now × Below m extra.now }
-    ensures { Runs n (Clearing (bit_row n) (mul_row n) c pivot (s.g - 1))
-        (through (turn_c (bit_row n) (mul_row n) (capacity log.old) c pivot) (listed.now ++ extra.now))
-        (store (mem_of m x.now z.now p.now) (mem_of table_rows tx.now tz.now tp.now) owed.old log.old s)
-        (store (mem_of m x.now z.now p.now) (mem_of table_rows tx.now tz.now tp.now) owed.new log.new result) }
+    by: Pivot,
+) -> Result<Late, Late>
+    requires turn_in { TurnIn n by.c by.row by.h
+        (store (mem_of m x.now z.now p.now) (mem_of table_rows tx.now tz.now tp.now) owed.old log.old (on s)) }
+    requires below { Below m lists.now.listed.now × Below m lists.now.extra.now }
+    ensures { Runs n (Clearing (bit_row n) (mul_row n) by.c by.row (s.g - 1))
+        (through (turn_c (bit_row n) (mul_row n) (capacity log.old) by.c by.row) (lists.now.listed.now ++ lists.now.extra.now))
+        (store (mem_of m x.now z.now p.now) (mem_of table_rows tx.now tz.now tp.now) owed.old log.old (on s))
+        (store (mem_of m x.now z.now p.now) (mem_of table_rows tx.now tz.now tp.now) owed.new log.new (at_of result)) }
 {
-    let w = encoding::words(n);
-    if c < n {
-        return clear_both(
-            n,
-            m,
-            x,
-            z,
-            p,
-            owed,
-            tx,
-            tz,
-            tp,
-            log,
-            x,
-            tx,
-            listed,
-            extra,
-            w,
-            c / 64,
-            c % 64,
-            s,
-            h,
-            c,
-            pivot,
-        );
-    }
-    let q = c - n;
-    clear_both(
-        n,
-        m,
-        x,
-        z,
-        p,
-        owed,
-        tx,
-        tz,
-        tp,
-        log,
-        z,
-        tz,
-        listed,
-        extra,
-        w,
-        q / 64,
-        q % 64,
-        s,
-        h,
-        c,
-        pivot,
-    )
+    let col = column_at(n, x, z, tx, tz, by.c);
+    clear_both(n, m, x, z, p, owed, tx, tz, tp, log, col, lists, s, by)
 }
 
 // Row pivot becomes the block's next pivot, and column c is cleared; o is two to the power of the block's pivots.
@@ -325,19 +296,18 @@ pub(crate) fn freeze(
     tz: &mut [u64],
     tp: &mut [u64],
     log: &mut [u16],
-    listed: &[u16],
-    extra: &[u16],
+    lists: &Lists<'_>,
     s: Late,
     o: u8,
     c: usize,
     pivot: u16,
-) -> Late
-    requires freeze_in { FreezeIn n c pivot o (store (mem_of m x.now z.now p.now) (mem_of table_rows tx.old tz.old tp.old) owed.old log.old s) }
-    requires below { Below m listed.now × Below m extra.now }
+) -> Result<Late, Late>
+    requires freeze_in { FreezeIn n c pivot o (store (mem_of m x.now z.now p.now) (mem_of table_rows tx.old tz.old tp.old) owed.old log.old (on s)) }
+    requires below { Below m lists.now.listed.now × Below m lists.now.extra.now }
     ensures { Runs n (Clearing (bit_row n) (mul_row n) c pivot s.g)
-        (through (turn_c (bit_row n) (mul_row n) (capacity log.old) c pivot) (listed.now ++ extra.now))
-        (store (mem_of m x.now z.now p.now) (mem_of table_rows tx.old tz.old tp.old) owed.old log.old s)
-        (store (mem_of m x.now z.now p.now) (mem_of table_rows tx.new tz.new tp.new) owed.new log.new result) }
+        (through (turn_c (bit_row n) (mul_row n) (capacity log.old) c pivot) (lists.now.listed.now ++ lists.now.extra.now))
+        (store (mem_of m x.now z.now p.now) (mem_of table_rows tx.old tz.old tp.old) owed.old log.old (on s))
+        (store (mem_of m x.now z.now p.now) (mem_of table_rows tx.new tz.new tp.new) owed.new log.new (at_of result)) }
 {
     let e = s.entries;
     let t = s.t;
@@ -355,12 +325,14 @@ pub(crate) fn freeze(
         RowNumber(pivot as usize),
     );
     let r = Late {
-        full: false,
         entries: e,
         t,
         g: g + 1,
     };
-    clear_column(
-        n, m, x, z, p, owed, tx, tz, tp, log, listed, extra, r, o, c, pivot,
-    )
+    let by = Pivot {
+        row: pivot,
+        c,
+        h: o,
+    };
+    clear_column(n, m, x, z, p, owed, tx, tz, tp, log, lists, r, by)
 }

@@ -5,12 +5,12 @@ ghost use Rattle.pauli.specs.Row.{mul_row, bit_row};
 ghost use Rattle.reduction.specs.Log.{capacity};
 ghost use Rattle.reduction.specs.Workers.{through, pivot_c, column_c, Below};
 ghost use Rattle.tabled.specs.Workers.{Clearing, Within};
-ghost use Rattle.late.specs.Workers.{table_rows, block_pivots, store, Runs, PivotIn, SearchIn, Found, ColumnIn, BeginIn, Began, StepIn, StartIn, begun, start, Does};
+ghost use Rattle.late.specs.Workers.{table_rows, block_pivots, on, at_of, come, come_of, Among, store, Runs, PivotIn, SearchIn, Found, ColumnIn, BeginIn, Began, StepIn, StartIn, begun, start, Does};
 
-use crate::Progress;
-use crate::clear::{Late, find, freeze};
+use crate::clear::{Late, column_at, find, freeze};
 use crate::lead::lead;
 use crate::rows::pay_all;
+use crate::{Lists, Progress};
 
 // Two to the power g.
 fn power(g: usize) -> u8
@@ -32,31 +32,26 @@ fn pivot_by(
     tz: &mut [u64],
     tp: &mut [u64],
     log: &mut [u16],
-    listed: &[u16],
-    extra: &[u16],
+    lists: &Lists<'_>,
     s: Late,
     o: u8,
     c: usize,
     pivot: u16,
     found: u16,
-) -> Late
-    requires pivot_in { PivotIn n c pivot found o (store (mem_of m x.old z.old p.old) (mem_of table_rows tx.old tz.old tp.old) owed.old log.old s) }
-    requires below { Below m listed.now × Below m extra.now }
+) -> Result<Late, Late>
+    requires pivot_in { PivotIn n c pivot found o
+        (store (mem_of m x.old z.old p.old) (mem_of table_rows tx.old tz.old tp.old) owed.old log.old (on s)) }
+    requires below { Below m lists.now.listed.now × Below m lists.now.extra.now }
     ensures { Runs n (Clearing (bit_row n) (mul_row n) c pivot s.g)
-        (pivot_c (bit_row n) (mul_row n) (capacity log.old) (listed.now ++ extra.now) c pivot found)
-        (store (mem_of m x.old z.old p.old) (mem_of table_rows tx.old tz.old tp.old) owed.old log.old s)
-        (store (mem_of m x.new z.new p.new) (mem_of table_rows tx.new tz.new tp.new) owed.new log.new result) }
+        (pivot_c (bit_row n) (mul_row n) (capacity log.old) (lists.now.listed.now ++ lists.now.extra.now) c pivot found)
+        (store (mem_of m x.old z.old p.old) (mem_of table_rows tx.old tz.old tp.old) owed.old log.old (on s))
+        (store (mem_of m x.new z.new p.new) (mem_of table_rows tx.new tz.new tp.new) owed.new log.new (at_of result)) }
 {
-    let r = lead(n, m, x, z, p, owed, tx, tz, tp, log, s, c, pivot, found);
-    if r.full {
-        return r;
-    }
-    freeze(
-        n, m, x, z, p, owed, tx, tz, tp, log, listed, extra, r, o, c, pivot,
-    )
+    let r = lead(n, m, x, z, p, owed, tx, tz, tp, log, s, c, pivot, found)?;
+    freeze(n, m, x, z, p, owed, tx, tz, tp, log, lists, r, o, c, pivot)
 }
 
-// The first place of the list, from t on, of a row with column c set; the end of the list if there is none.
+// The first place of the list, from t on, of a row with column c set.
 fn find_column(
     n: usize,
     m: usize,
@@ -70,16 +65,11 @@ fn find_column(
     listed: &[u16],
     t: usize,
     c: usize,
-) -> usize
+) -> Option<usize>
     requires { SearchIn n c t (mem_of m x.now z.now p.now) owed.now (mem_of table_rows tx.now tz.now tp.now) listed.now }
     ensures { Found n c t (mem_of m x.now z.now p.now) owed.now (mem_of table_rows tx.now tz.now tp.now) listed.now result }
 {
-    let w = encoding::words(n);
-    if c < n {
-        return find(x, owed, tx, listed, w, c / 64, c % 64, t);
-    }
-    let q = c - n;
-    find(z, owed, tz, listed, w, q / 64, q % 64, t)
+    find(column_at(n, x, z, tx, tz, c), owed, listed, t)
 }
 
 // One column of the order, in a block that has room for a pivot more.
@@ -94,44 +84,49 @@ fn column(
     tz: &mut [u64],
     tp: &mut [u64],
     log: &mut [u16],
-    listed: &[u16],
-    extra: &[u16],
+    lists: &Lists<'_>,
     s: Late,
     o: u8,
     c: usize,
-) -> Late
-    requires column_in { ColumnIn n c o listed.now (store (mem_of m x.old z.old p.old) (mem_of table_rows tx.old tz.old tp.old) owed.old log.old s) }
-    requires below { Below m listed.now × Below m extra.now }
-    ensures t_in_bounds { result.t ≤ length listed.now }
+) -> Result<Late, Late>
+    requires column_in { ColumnIn n c o lists.now.listed.now
+        (store (mem_of m x.old z.old p.old) (mem_of table_rows tx.old tz.old tp.old) owed.old log.old (on s)) }
+    requires below { Below m lists.now.listed.now × Below m lists.now.extra.now }
+    ensures t_in_bounds { Among (length lists.now.listed.now) result }
     ensures runs { Runs n (Within block_pivots)
-        (column_c (bit_row n) (mul_row n) (capacity log.old) listed.now extra.now c)
-        (store (mem_of m x.old z.old p.old) (mem_of table_rows tx.old tz.old tp.old) owed.old log.old s)
-        (store (mem_of m x.new z.new p.new) (mem_of table_rows tx.new tz.new tp.new) owed.new log.new result) }
+        (column_c (bit_row n) (mul_row n) (capacity log.old) lists.now.listed.now lists.now.extra.now c)
+        (store (mem_of m x.old z.old p.old) (mem_of table_rows tx.old tz.old tp.old) owed.old log.old (on s))
+        (store (mem_of m x.new z.new p.new) (mem_of table_rows tx.new tz.new tp.new) owed.new log.new (at_of result)) }
 {
     let t = s.t;
-    let f = find_column(n, m, x, z, p, owed, tx, tz, tp, listed, t, c);
-    if listed.len() <= f {
-        return s;
-    }
+    let Some(f) = find_column(n, m, x, z, p, owed, tx, tz, tp, lists.listed, t, c) else {
+        return Ok(s);
+    };
     let r = pivot_by(
-        n, m, x, z, p, owed, tx, tz, tp, log, listed, extra, s, o, c, listed[t], listed[f],
-    );
-    let e = r.entries;
+        n,
+        m,
+        x,
+        z,
+        p,
+        owed,
+        tx,
+        tz,
+        tp,
+        log,
+        lists,
+        s,
+        o,
+        c,
+        lists.listed[t],
+        lists.listed[f],
+    )?;
+    let entries = r.entries;
     let g = r.g;
-    if r.full {
-        return Late {
-            full: true,
-            entries: e,
-            t,
-            g,
-        };
-    }
-    Late {
-        full: false,
-        entries: e,
+    Ok(Late {
+        entries,
         t: t + 1,
         g,
-    }
+    })
 }
 
 // Where the block has all its pivots, every row pays, and a new block begins.
@@ -147,8 +142,9 @@ fn begin(
     tp: &[u64],
     s: Late,
 ) -> Late
-    requires { BeginIn n (mem_of m x.old z.old p.old) owed.old (mem_of table_rows tx.now tz.now tp.now) s }
-    ensures { Began n (mem_of table_rows tx.now tz.now tp.now) (mem_of m x.old z.old p.old) owed.old s (mem_of m x.new z.new p.new) owed.new result }
+    requires { BeginIn n (mem_of m x.old z.old p.old) owed.old (mem_of table_rows tx.now tz.now tp.now) (on s) }
+    ensures { Began n (mem_of table_rows tx.now tz.now tp.now)
+        (mem_of m x.old z.old p.old) owed.old (on s) (mem_of m x.new z.new p.new) owed.new (on result) }
 {
     let e = s.entries;
     let t = s.t;
@@ -157,7 +153,6 @@ fn begin(
     }
     pay_all(n, m, x, z, p, owed, tx, tz, tp);
     Late {
-        full: false,
         entries: e,
         t,
         g: 0,
@@ -176,22 +171,22 @@ fn step(
     tz: &mut [u64],
     tp: &mut [u64],
     log: &mut [u16],
-    listed: &[u16],
-    extra: &[u16],
+    lists: &Lists<'_>,
     s: Late,
     c: usize,
-) -> Late
-    requires step_in { StepIn n c listed.now (store (mem_of m x.old z.old p.old) (mem_of table_rows tx.old tz.old tp.old) owed.old log.old s) }
-    requires below { Below m listed.now × Below m extra.now }
-    ensures t_in_bounds { result.t ≤ length listed.now }
+) -> Result<Late, Late>
+    requires step_in { StepIn n c lists.now.listed.now
+        (store (mem_of m x.old z.old p.old) (mem_of table_rows tx.old tz.old tp.old) owed.old log.old (on s)) }
+    requires below { Below m lists.now.listed.now × Below m lists.now.extra.now }
+    ensures t_in_bounds { Among (length lists.now.listed.now) result }
     ensures runs { Runs n (Within block_pivots)
-        (column_c (bit_row n) (mul_row n) (capacity log.old) listed.now extra.now c)
-        (store (mem_of m x.old z.old p.old) (mem_of table_rows tx.old tz.old tp.old) owed.old log.old s)
-        (store (mem_of m x.new z.new p.new) (mem_of table_rows tx.new tz.new tp.new) owed.new log.new result) }
+        (column_c (bit_row n) (mul_row n) (capacity log.old) lists.now.listed.now lists.now.extra.now c)
+        (store (mem_of m x.old z.old p.old) (mem_of table_rows tx.old tz.old tp.old) owed.old log.old (on s))
+        (store (mem_of m x.new z.new p.new) (mem_of table_rows tx.new tz.new tp.new) owed.new log.new (at_of result)) }
 {
     let r = begin(n, m, x, z, p, owed, tx, tz, tp, s);
     let o = power(r.g);
-    column(n, m, x, z, p, owed, tx, tz, tp, log, listed, extra, r, o, c)
+    column(n, m, x, z, p, owed, tx, tz, tp, log, lists, r, o, c)
 }
 
 // The columns of the order, one after another, from an empty log on.
@@ -206,33 +201,40 @@ fn columns(
     tz: &mut [u64],
     tp: &mut [u64],
     log: &mut [u16],
-    order: &[u16],
-    listed: &[u16],
-    extra: &[u16],
-) -> Late
+    lists: &Lists<'_>,
+) -> Result<Late, Late>
     requires start_in { StartIn n (mem_of m x.old z.old p.old) owed.old (mem_of table_rows tx.old tz.old tp.old) }
-    requires below { Below (n + n) order.now × Below m listed.now × Below m extra.now }
+    requires below { Below (n + n) lists.now.order.now × Below m lists.now.listed.now × Below m lists.now.extra.now }
     ensures { Runs n (Within block_pivots)
-        (through (column_c (bit_row n) (mul_row n) (capacity log.old) listed.now extra.now) order.now)
+        (through (column_c (bit_row n) (mul_row n) (capacity log.old) lists.now.listed.now lists.now.extra.now) lists.now.order.now)
         (store (mem_of m x.old z.old p.old) (mem_of table_rows tx.old tz.old tp.old) owed.old log.old begun)
-        (store (mem_of m x.new z.new p.new) (mem_of table_rows tx.new tz.new tp.new) owed.new log.new result) }
+        (store (mem_of m x.new z.new p.new) (mem_of table_rows tx.new tz.new tp.new) owed.new log.new (at_of result)) }
 {
     let mut r = Late {
-        full: false,
         entries: 0,
         t: 0,
         g: 0,
     };
-    let mut i = 0;
-    while i < order.len() {
-        let c = order[i] as usize;
-        r = step(n, m, x, z, p, owed, tx, tz, tp, log, listed, extra, r, c);
-        if r.full {
-            return r;
-        }
-        i += 1;
+    for &c in lists.order {
+        r = step(n, m, x, z, p, owed, tx, tz, tp, log, lists, r, c as usize)?;
     }
-    r
+    Ok(r)
+}
+
+// How far a run has come, without the block.
+fn progress(r: Result<Late, Late>) -> Result<Progress, Progress>
+    ensures { come result ≡ come_of (at_of r) }
+{
+    match r {
+        Ok(s) => Ok(Progress {
+            entries: s.entries,
+            t: s.t,
+        }),
+        Err(s) => Err(Progress {
+            entries: s.entries,
+            t: s.t,
+        }),
+    }
 }
 
 // The same, and at the end every row pays.
@@ -247,20 +249,15 @@ pub(crate) fn reduce(
     tz: &mut [u64],
     tp: &mut [u64],
     log: &mut [u16],
-    order: &[u16],
-    listed: &[u16],
-    extra: &[u16],
-) -> Progress
+    lists: &Lists<'_>,
+) -> Result<Progress, Progress>
     requires start_in { StartIn n (mem_of m x.old z.old p.old) owed.old (mem_of table_rows tx.old tz.old tp.old) }
-    requires below { Below (n + n) order.now × Below m listed.now × Below m extra.now }
+    requires below { Below (n + n) lists.now.order.now × Below m lists.now.listed.now × Below m lists.now.extra.now }
     ensures { Does n
-        (through (column_c (bit_row n) (mul_row n) (capacity log.old) listed.now extra.now) order.now)
-        (mem_of m x.old z.old p.old) log.old start (mem_of m x.new z.new p.new) log.new result }
+        (through (column_c (bit_row n) (mul_row n) (capacity log.old) lists.now.listed.now lists.now.extra.now) lists.now.order.now)
+        (mem_of m x.old z.old p.old) log.old start (mem_of m x.new z.new p.new) log.new (come result) }
 {
-    let r = columns(n, m, x, z, p, owed, tx, tz, tp, log, order, listed, extra);
+    let r = columns(n, m, x, z, p, owed, tx, tz, tp, log, lists);
     pay_all(n, m, x, z, p, owed, tx, tz, tp);
-    let full = r.full;
-    let entries = r.entries;
-    let t = r.t;
-    Progress { full, entries, t }
+    progress(r)
 }

@@ -6,14 +6,14 @@ ghost use Rattle.encoding.specs.Set.{exponent_at, with_exponent, mem_of};
 ghost use Rattle.reduction.specs.Log.{capacity};
 ghost use Rattle.reduction.specs.Workers.{lead_c};
 ghost use Rattle.tabled.specs.Workers.{Led};
-ghost use Rattle.late.specs.Workers.{table_rows, store, Runs, RowsBy, RowBy, PutIn, Puts, LeadIn, Finds, Makes, lead_by};
+ghost use Rattle.late.specs.Workers.{table_rows, on, at_of, store, Runs, RowsBy, RowBy, PutIn, Puts, LeadIn, Finds, Makes, lead_by};
 
 use crate::clear::Late;
 use crate::rows::pay;
 use pauli::{ComplexSign, RowNumber};
 
 // The exponents of row b and of the product are added to that of row a.
-fn add_exponent_of(p: &mut [u64], a: RowNumber, b: RowNumber, e: ComplexSign)
+pub fn add_exponent_of(p: &mut [u64], a: RowNumber, b: RowNumber, e: ComplexSign)
     ensures { p.new ≡ with_exponent p.old a.0
         ((exponent_at p.old a.0 + exponent_at p.old b.0 + e.0) % 4) }
 {
@@ -50,20 +50,15 @@ fn put(
     s: Late,
     a: u16,
     b: u16,
-) -> Late
-    requires { PutIn n (mem_of m x.old z.old p.old) log.old s a b }
-    ensures { Puts n (mem_of m x.old z.old p.old) log.old s a b (mem_of m x.new z.new p.new) log.new result }
+) -> Result<Late, Late>
+    requires { PutIn n (mem_of m x.old z.old p.old) log.old (on s) a b }
+    ensures { Puts n (mem_of m x.old z.old p.old) log.old (on s) a b (mem_of m x.new z.new p.new) log.new (at_of result) }
 {
     let e = s.entries;
     let t = s.t;
     let g = s.g;
     if log.len() / 2 <= e {
-        return Late {
-            full: true,
-            entries: e,
-            t,
-            g,
-        };
+        return Err(s);
     }
     mul_rows(
         encoding::words(n),
@@ -77,12 +72,11 @@ fn put(
     let k = e + e;
     log[k] = a;
     log[k + 1] = b;
-    Late {
-        full: false,
+    Ok(Late {
         entries: e + 1,
         t,
         g,
-    }
+    })
 }
 
 // The row found pays, and the pivot, which owes nothing, is multiplied by it.
@@ -100,11 +94,11 @@ fn lead_by(
     s: Late,
     pivot: u16,
     found: u16,
-) -> Late
-    requires { LeadIn n pivot found (store (mem_of m x.old z.old p.old) (mem_of table_rows tx.now tz.now tp.now) owed.old log.old s) }
+) -> Result<Late, Late>
+    requires { LeadIn n pivot found (store (mem_of m x.old z.old p.old) (mem_of table_rows tx.now tz.now tp.now) owed.old log.old (on s)) }
     ensures { Makes n (lead_by n (capacity log.old) pivot found)
-        (store (mem_of m x.old z.old p.old) (mem_of table_rows tx.now tz.now tp.now) owed.old log.old s)
-        (store (mem_of m x.new z.new p.new) (mem_of table_rows tx.now tz.now tp.now) owed.new log.new result) }
+        (store (mem_of m x.old z.old p.old) (mem_of table_rows tx.now tz.now tp.now) owed.old log.old (on s))
+        (store (mem_of m x.new z.new p.new) (mem_of table_rows tx.now tz.now tp.now) owed.new log.new (at_of result)) }
 {
     pay(n, m, x, z, p, owed, tx, tz, tp, found as usize);
     put(n, m, x, z, p, log, s, pivot, found)
@@ -126,16 +120,16 @@ pub(crate) fn lead(
     c: usize,
     pivot: u16,
     found: u16,
-) -> Late
-    requires lead_in { LeadIn n pivot found (store (mem_of m x.old z.old p.old) (mem_of table_rows tx.now tz.now tp.now) owed.old log.old s) }
-    requires finds { Finds n c pivot found (store (mem_of m x.old z.old p.old) (mem_of table_rows tx.now tz.now tp.now) owed.old log.old s) }
+) -> Result<Late, Late>
+    requires lead_in { LeadIn n pivot found (store (mem_of m x.old z.old p.old) (mem_of table_rows tx.now tz.now tp.now) owed.old log.old (on s)) }
+    requires finds { Finds n c pivot found (store (mem_of m x.old z.old p.old) (mem_of table_rows tx.now tz.now tp.now) owed.old log.old (on s)) }
     ensures { Runs n (Led (bit_row n) (mul_row n) c pivot s.g) (lead_c (bit_row n) (mul_row n) (capacity log.old) pivot found)
-        (store (mem_of m x.old z.old p.old) (mem_of table_rows tx.now tz.now tp.now) owed.old log.old s)
-        (store (mem_of m x.new z.new p.new) (mem_of table_rows tx.now tz.now tp.now) owed.new log.new result) }
+        (store (mem_of m x.old z.old p.old) (mem_of table_rows tx.now tz.now tp.now) owed.old log.old (on s))
+        (store (mem_of m x.new z.new p.new) (mem_of table_rows tx.now tz.now tp.now) owed.new log.new (at_of result)) }
 {
     pay(n, m, x, z, p, owed, tx, tz, tp, pivot as usize);
     if found == pivot {
-        return s;
+        return Ok(s);
     }
     lead_by(n, m, x, z, p, owed, tx, tz, tp, log, s, pivot, found)
 }

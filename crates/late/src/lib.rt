@@ -8,10 +8,11 @@ ghost use Rattle.pauli.specs.Row.{mul_row, bit_row};
 ghost use Rattle.encoding.specs.Refusals.{some, too_large};
 ghost use Rattle.reduction.specs.Log.{capacity};
 ghost use Rattle.reduction.specs.Workers.{through, column_c};
-ghost use Rattle.late.specs.Workers.{start, Does, Blanks, ListsIn, Told, Reduces};
+ghost use Rattle.late.specs.Workers.{come, start, Does, Blanks, ListsIn, Told, Reduces};
 
 use column::reduce;
-use encoding::MAX_ROWS;
+use encoding::{MAX_ROWS, RowSet};
+pub use lead::add_exponent_of;
 
 mod clear;
 mod column;
@@ -29,10 +30,18 @@ const TABLE_WORDS: usize = 4096;
 
 const TABLE_PHASES: usize = 2;
 
-// How far a run has come: whether its log is full, the entries in it, the pivots.
+// What a reduction and its check go by: the columns in order, the rows that may be pivots, and the rows that are cleared besides.
+#[derive(Clone, Copy)]
+pub struct Lists<'a> {
+    pub order: &'a [u16],
+    pub listed: &'a [u16],
+    pub extra: &'a [u16],
+}
+
+// How far a run has come: the entries in its log, the pivots. It is the error of a run that a full log ended, with rows and log as after the entries
+// that fitted.
 #[derive(Drop)]
 pub struct Progress {
-    pub full: bool,
     pub entries: usize,
     pub t: usize,
 }
@@ -41,36 +50,26 @@ pub struct Progress {
 fn too_large(list: &[u16], m: usize) -> bool
     ensures { result ≡ some (too_large m) list.now }
 {
-    let mut i = 0;
-    while i < list.len() {
-        let k = list[i] as usize;
-        if m <= k {
-            return true;
-        }
-        i += 1;
-    }
-    false
+    list.iter().any(|&k| m <= k as usize)
 }
 
 // Whether a set can be reduced by an order and two lists: what refusals 1 to 6 ask.
-fn ready(
-    n: usize,
-    m: usize,
-    x: &[u64],
-    z: &[u64],
-    p: &[u64],
-    order: &[u16],
-    listed: &[u16],
-    extra: &[u16],
-) -> bool
-    ensures { Told (ListsIn n order.now listed.now extra.now (mem_of m x.now z.now p.now)) result }
+fn ready(n: usize, m: usize, x: &[u64], z: &[u64], p: &[u64], lists: &Lists<'_>) -> bool
+    ensures { Told (ListsIn n lists.now.order.now lists.now.listed.now lists.now.extra.now (mem_of m x.now z.now p.now)) result }
 {
-    if encoding::set_fault(n, m, x, z, p) != 0 {
+    let set = RowSet {
+        n,
+        m,
+        x,
+        z,
+        phases: p,
+    };
+    let Ok(()) = encoding::set_fault(&set) else {
         return false;
-    }
-    let a = too_large(order, n + n);
-    let b = too_large(listed, m);
-    let c = too_large(extra, m);
+    };
+    let a = too_large(lists.order, n + n);
+    let b = too_large(lists.listed, m);
+    let c = too_large(lists.extra, m);
     !(a | (b | c))
 }
 
@@ -86,14 +85,13 @@ fn lend(
     tz: &mut [u64],
     tp: &mut [u64],
     log: &mut [u16],
-    order: &[u16],
-    listed: &[u16],
-    extra: &[u16],
-) -> Progress
-    requires { ListsIn n order.now listed.now extra.now (mem_of m x.old z.old p.old) × Blanks owed.old tx.old tz.old tp.old }
+    lists: &Lists<'_>,
+) -> Result<Progress, Progress>
+    requires { ListsIn n lists.now.order.now lists.now.listed.now lists.now.extra.now (mem_of m x.old z.old p.old)
+        × Blanks owed.old tx.old tz.old tp.old }
     ensures { Does n
-        (through (column_c (bit_row n) (mul_row n) (capacity log.old) listed.now extra.now) order.now)
-        (mem_of m x.old z.old p.old) log.old start (mem_of m x.new z.new p.new) log.new result }
+        (through (column_c (bit_row n) (mul_row n) (capacity log.old) lists.now.listed.now lists.now.extra.now) lists.now.order.now)
+        (mem_of m x.old z.old p.old) log.old start (mem_of m x.new z.new p.new) log.new (come result) }
 {
     let k = TABLE * encoding::words(n);
     reduce(
@@ -107,9 +105,7 @@ fn lend(
         &mut tz[0..k],
         tp,
         log,
-        order,
-        listed,
-        extra,
+        lists,
     )
 }
 
@@ -121,21 +117,19 @@ fn scratched(
     z: &mut [u64],
     p: &mut [u64],
     log: &mut [u16],
-    order: &[u16],
-    listed: &[u16],
-    extra: &[u16],
-) -> Progress
-    requires { ListsIn n order.now listed.now extra.now (mem_of m x.old z.old p.old) }
+    lists: &Lists<'_>,
+) -> Result<Progress, Progress>
+    requires { ListsIn n lists.now.order.now lists.now.listed.now lists.now.extra.now (mem_of m x.old z.old p.old) }
     ensures { Does n
-        (through (column_c (bit_row n) (mul_row n) (capacity log.old) listed.now extra.now) order.now)
-        (mem_of m x.old z.old p.old) log.old start (mem_of m x.new z.new p.new) log.new result }
+        (through (column_c (bit_row n) (mul_row n) (capacity log.old) lists.now.listed.now lists.now.extra.now) lists.now.order.now)
+        (mem_of m x.old z.old p.old) log.old start (mem_of m x.new z.new p.new) log.new (come result) }
 {
     let mut owed = [0u8; MAX_ROWS];
     let mut tx = [0u64; TABLE_WORDS];
     let mut tz = [0u64; TABLE_WORDS];
     let mut tp = [0u64; TABLE_PHASES];
     lend(
-        n, m, x, z, p, &mut owed, &mut tx, &mut tz, &mut tp, log, order, listed, extra,
+        n, m, x, z, p, &mut owed, &mut tx, &mut tz, &mut tp, log, lists,
     )
 }
 
@@ -148,19 +142,13 @@ pub fn columns(
     z: &mut [u64],
     p: &mut [u64],
     log: &mut [u16],
-    order: &[u16],
-    listed: &[u16],
-    extra: &[u16],
-) -> Progress
-    ensures { Reduces n order.now listed.now extra.now (mem_of m x.old z.old p.old) log.old
-        (mem_of m x.new z.new p.new) log.new result }
+    lists: &Lists<'_>,
+) -> Result<Progress, Progress>
+    ensures { Reduces n lists.now.order.now lists.now.listed.now lists.now.extra.now (mem_of m x.old z.old p.old) log.old
+        (mem_of m x.new z.new p.new) log.new (come result) }
 {
-    if ready(n, m, x, z, p, order, listed, extra) {
-        return scratched(n, m, x, z, p, log, order, listed, extra);
+    if ready(n, m, x, z, p, lists) {
+        return scratched(n, m, x, z, p, log, lists);
     }
-    Progress {
-        full: false,
-        entries: 0,
-        t: 0,
-    }
+    Ok(Progress { entries: 0, t: 0 })
 }

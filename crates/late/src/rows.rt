@@ -23,8 +23,7 @@ fn mul_into(
 {
     let mut n: u64 = 0;
     let mut f: u64 = 0;
-    let mut i = 0;
-    while i < w {
+    for i in 0..w {
         let a = s + i;
         let b = t + i;
         let c = d + i;
@@ -36,7 +35,6 @@ fn mul_into(
         f = products::turn_threes(f, lx, lz, rx, rz);
         x[c] = lx ^ rx;
         z[c] = lz ^ rz;
-        i += 1;
     }
     products::factor_from(n, f)
 }
@@ -125,10 +123,8 @@ pub(crate) fn pay_all(
     requires { Owing n (mem_of m x.old z.old p.old) owed.old (mem_of table_rows tx.now tz.now tp.now) }
     ensures { PaidAll n (mem_of m x.old z.old p.old) owed.old (mem_of table_rows tx.now tz.now tp.now) (mem_of m x.new z.new p.new) owed.new }
 {
-    let mut k = 0;
-    while k < m {
+    for k in 0..m {
         pay(n, m, x, z, p, owed, tx, tz, tp, k);
-        k += 1;
     }
 }
 
@@ -137,11 +133,7 @@ fn copy_words(x: &mut [u64], y: &[u64], d: usize, t: usize, w: usize)
     requires { (d + w ≤ length x.old) × (t + w ≤ length y.now) }
     ensures { Copied w d t x.old y.now x.new }
 {
-    let mut i = 0;
-    while i < w {
-        x[d + i] = y[t + i];
-        i += 1;
-    }
+    x[d..d + w].copy_from_slice(&y[t..t + w]);
 }
 
 // Row d of a set becomes row b of another.
@@ -183,8 +175,7 @@ fn fill(
     requires { FillIn n w o a.0 (mem_of table_rows tx.old tz.old tp.old) (mem_of m x.now z.now p.now) }
     ensures { Doubled n o a.0 (mem_of table_rows tx.old tz.old tp.old) (mem_of m x.now z.now p.now) (mem_of table_rows tx.new tz.new tp.new) }
 {
-    let mut i = 1;
-    while i < o {
+    for i in 1..o {
         mul_by(
             crate::TABLE,
             tx,
@@ -199,7 +190,6 @@ fn fill(
             RowNumber(i),
             a,
         );
-        i += 1;
     }
 }
 

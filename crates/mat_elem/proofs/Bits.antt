@@ -113,8 +113,8 @@ module _ (n top : ℕ) (l : n ≤ 64) (e : suc top ≡ 2 ^ n) where
   set-above w h = from n 64 w l h ∙ ap (λ (b : ℕ). leb b w) (sym e)
 
 -- the line 4, by what one pass over the terms found
-pub bits-seen : (n : ℕ) {xs zs : List ℕ} (beside : Bool) {all : ℕ} {fell high : Bool} → Looked xs zs all fell → high ≡ set_from n all → high_bits n xs zs beside ≡ (high || beside)
-bits-seen n beside s e = ap (λ (b : Bool). b || beside) (sym (e ∙ s.is-above n))
+pub bits_seen : (n : ℕ) {xs zs : List ℕ} (beside : Bool) {all : ℕ} {fell high : Bool} → Looked xs zs all fell → high ≡ set_from n all → high_bits n xs zs beside ≡ (high || beside)
+bits_seen n beside s e = ap (λ (b : Bool). b || beside) (sym (e ∙ s.is-above n))
 
 -- ---- the difference of two words by halves: its highest bit tells which is below
 

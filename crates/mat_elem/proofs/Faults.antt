@@ -1,16 +1,17 @@
 -- The lines of the table: tested in two parts, and what it tells that none of them fits the terms. Assumes nothing.
 -- The first part's number comes first (`rank-append`); from number 0 each test is false, and that gives lengths, limits and order.
-use Rattle.std.proofs.Common.{◌≡◌, ℕ, zero, suc, ◌≤◌, Bool, false, not, ◌||◌, eqb, ltb, List, length, sym, refl, ap, ◌∙◌, ap₂, subst₂, suc-ne-zero, arith, ltb-false, eqb-true}
+use Rattle.std.proofs.Common.{◌≡◌, ℕ, ◌≤◌, Bool, false, not, ◌||◌, eqb, ltb, List, length, sym, refl, ap, ◌∙◌, ap₂, subst, Result, Ok, Err, arith, ltb-false, eqb-true}
 use borrow.Author.Tests.{not-false}
 use lib.Bits.{bit_xor}
 use Rattle.encoding.specs.Ranks.{by_rank}
-use Rattle.encoding.proofs.Faults.{or_else, or-none, or-first}
+use Rattle.encoding.specs.Refusals.{done_or}
+use Rattle.encoding.specs.declared.Refusal.{Refusal}
+use Rattle.encoding.proofs.Faults.{or_else, or-none, first_by, next_by, passed-by, value-is, refusing, passing}
 use Rattle.encoding.proofs.Ranks.{none-holds, rank-append}
 use Rattle.encoding.proofs.Scan.{none_of}
 use Rattle.mat_elem.specs.Terms.{least_qubits, most_qubits, max_terms, too_many, unlike_lengths, set_from, high_bits, falls, lines_to10, term_lines}
-use Rattle.mat_elem.specs.Workers.{shape_lines, word_lines, block_from, block_to, place_of, found_or, found_of, BlockOf, PartOf}
+use Rattle.mat_elem.specs.Workers.{shape_lines, word_lines, place_of, found_of, BlockOf, PartOf}
 use Rattle.mat_elem.specs.declared.Place.{Place}
-use Rattle.mat_elem.specs.declared.Found.TheVariants.{Block, Refused}
 use Rattle.mat_elem.proofs.Places.{block_of}
 
 pub record Shape (n m z reals imags : ℕ) : Type 0 where
@@ -69,12 +70,16 @@ module _ (n : ℕ) (xs zs : List ℕ) (reals imags : ℕ) (many unequal beside :
   both : line_no ≡ or_else shape_no word_no
   both = rank-append (shape_lines n (length xs) (length zs) reals imags many unequal) (word_lines n xs zs beside) refl
 
-  -- ---- the number, from the two parts
-  pub lines-shape : {k : ℕ} → k ≡ shape_no → (k ≡ 0 → ⊥) → k ≡ line_no
-  lines-shape {k} e h = e ∙ sym (both ∙ or-first shape_no word_no (λ z. h (e ∙ z)))
+  -- ---- the answer, from the two parts
+  pub lines_shape : {r : Result Unit Refusal} {e : Refusal} → r ≡ done_or shape_no → r ≡ Err e → Err e ≡ done_or line_no
+  lines_shape by h = first_by shape_no word_no tt by h tt ∙ ap done_or (sym both)
 
-  pub lines-words : {k j : ℕ} → j ≡ shape_no → j ≡ 0 → k ≡ word_no → k ≡ line_no
-  lines-words {k} {j} s z e = e ∙ sym (both ∙ ap (λ (i : ℕ). or_else i word_no) (sym s ∙ z))
+  pub lines_words : {r t : Result Unit Refusal} {u : Unit} → r ≡ done_or shape_no → r ≡ Ok u → t ≡ done_or word_no → t ≡ done_or line_no
+  lines_words by h e = next_by shape_no word_no tt by h tt e ∙ ap done_or (sym both)
+
+  -- so there are as many Z words as X words
+  pub same_lengths : {r : Result Unit Refusal} {u : Unit} → r ≡ done_or shape_no → r ≡ Ok u → length zs ≡ length xs
+  same_lengths by h = (shape-sound n (length xs) (length zs) reals imags many unequal (passed-by shape_no tt (sym h ∙ by))).shape.z-long
 
   -- ---- no line fits
   pub lines-sound : line_no ≡ 0 → Sound n xs zs reals imags many unequal beside
@@ -89,48 +94,40 @@ module _ (n : ℕ) (xs zs : List ℕ) (reals imags bra ket : ℕ) where
   pub sound : by_rank (term_lines n xs zs reals imags bra ket) ≡ 0 → Sound n xs zs reals imags false false (set_from n bra || set_from n ket)
   sound = lines-sound n xs zs reals imags false false (set_from n bra || set_from n ket)
 
-  pub number_is : {p q : Bool} {k : ℕ} → p ≡ set_from n bra → q ≡ set_from n ket → k ≡ by_rank (lines_to10 n xs zs reals imags false false (p || q))
-      → k ≡ by_rank (term_lines n xs zs reals imags bra ket)
-  number_is e f g = g ∙ ap₂ (λ (x y : Bool). by_rank (lines_to10 n xs zs reals imags false false (x || y))) e f
+  pub number_is : {p q : Bool} {r : Result Unit Refusal} → p ≡ set_from n bra → q ≡ set_from n ket → r ≡ done_or (by_rank (lines_to10 n xs zs reals imags false false (p || q)))
+      → r ≡ done_or (by_rank (term_lines n xs zs reals imags bra ket))
+  number_is e f g = g ∙ ap₂ (λ (x y : Bool). done_or (by_rank (lines_to10 n xs zs reals imags false false (x || y)))) e f
 
-  -- ---- what is found
-  pub found-refused : (k : ℕ) → (k ≡ 0 → ⊥) → by_rank (term_lines n xs zs reals imags bra ket) ≡ k → Refused k ≡ found_of n xs zs reals imags bra ket
-  unfolding found_of
-  found-refused zero h e = absurd (h refl)
-  found-refused (suc k) h e = rw e
-
-  pub found_none : by_rank (term_lines n xs zs reals imags bra ket) ≡ 0 → {p : Place} → p ≡ place_of xs (bit_xor bra ket) → Block p.first p.last ≡ found_of n xs zs reals imags bra ket
-  unfolding found_of
-  found_none e q = rw (e, q)
-
-  -- ---- what a caller learns from it
   abbrev number : ℕ
   number = by_rank (term_lines n xs zs reals imags bra ket)
 
-  pub found-refusal : {k : ℕ} → found_of n xs zs reals imags bra ket ≡ Refused k → (by_rank (term_lines n xs zs reals imags bra ket) ≡ k) × (k ≡ 0 → ⊥)
+  -- ---- what is found
+  pub found_refused : {r : Result Unit Refusal} {e : Refusal} → r ≡ done_or number → r ≡ Err e → Err e ≡ found_of n xs zs reals imags bra ket
   unfolding found_of
-  found-refusal {k} e = go number refl e
-    where
-      go : (j : ℕ) → number ≡ j → found_or j (block_from xs (bit_xor bra ket)) (block_to xs (bit_xor bra ket)) ≡ Refused k → (number ≡ k) × (k ≡ 0 → ⊥)
-      go zero z q = let no : ◌≡◌ {A = ℕ} 0 1 = cc in absurd (omega arith)
-      go (suc j) z q = let s : suc j ≡ k = cc in (z ∙ s, λ h. suc-ne-zero j (s ∙ h))
+  found_refused by h = refusing number tt by h (place_of xs (bit_xor bra ket))
 
-  pub found-block : {first last : ℕ} → found_of n xs zs reals imags bra ket ≡ Block first last
-      → (by_rank (term_lines n xs zs reals imags bra ket) ≡ 0) × BlockOf xs (bit_xor bra ket) first last
+  pub found_rising : {r : Result Unit Refusal} {u : Unit} → r ≡ done_or number → r ≡ Ok u → falls xs ≡ false
+  found_rising by h = (sound (passed-by number tt (sym h ∙ by))).rising
+
+  pub found_none : {r : Result Unit Refusal} {u : Unit} → r ≡ done_or number → r ≡ Ok u → {p : Place} → p ≡ place_of xs (bit_xor bra ket)
+      → Ok p ≡ found_of n xs zs reals imags bra ket
   unfolding found_of
-  found-block {first} {last} e = go number refl e
-    where
-      go : (j : ℕ) → number ≡ j → found_or j (block_from xs (bit_xor bra ket)) (block_to xs (bit_xor bra ket)) ≡ Block first last
-          → (number ≡ 0) × BlockOf xs (bit_xor bra ket) first last
-      go zero z q =
-          let p : block_from xs (bit_xor bra ket) ≡ first = cc in
-          let r : block_to xs (bit_xor bra ket) ≡ last = cc in
-          (z, subst₂ (BlockOf xs (bit_xor bra ket)) p r (block_of xs (bit_xor bra ket) (sound z).rising))
-      go (suc j) z q = let no : ◌≡◌ {A = ℕ} 0 1 = cc in absurd (omega arith)
+  found_none by h q = ap Ok q ∙ passing number tt by h (place_of xs (bit_xor bra ket))
 
-  pub found_part : {first last : ℕ} → found_of n xs zs reals imags bra ket ≡ Block first last → PartOf first last (length xs) (length zs) reals imags
+  -- ---- what a caller learns from it
+  pub found-block : {p : Place} → found_of n xs zs reals imags bra ket ≡ Ok p → (number ≡ 0) × BlockOf xs (bit_xor bra ket) p.first p.last
+  unfolding found_of
+  found-block {p} e =
+      let v = value-is number (place_of xs (bit_xor bra ket)) p e in
+      (v.0, subst (λ (q : Place). BlockOf xs (bit_xor bra ket) q.first q.last) v.1 (block_of xs (bit_xor bra ket) (sound v.0).rising))
+
+  pub found_part : {p : Place} → found_of n xs zs reals imags bra ket ≡ Ok p → PartOf p.first p.last (length xs) (length zs) reals imags
   found_part e =
       let f = found-block e in
       let s = (sound f.0).shape in
       let b = f.1 in
       record { ordered = b.ordered; in-x = b.within; in-z = omega arith; in-re = omega arith; in-im = omega arith; few = omega arith }
+
+  -- and that there are as many imaginary parts as real ones
+  pub found_parts : {p : Place} → found_of n xs zs reals imags bra ket ≡ Ok p → imags ≡ reals
+  found_parts e = let s = (sound (found-block e).0).shape in s.im-long ∙ sym s.re-long

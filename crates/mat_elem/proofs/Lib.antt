@@ -4,5 +4,7 @@ pub mod Places
 pub mod Bits
 pub mod Faults
 pub mod SumLaws
+pub mod Span
+pub mod Wild
 pub mod Entry
 pub mod OneOf

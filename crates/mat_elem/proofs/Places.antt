@@ -1,5 +1,8 @@
 -- Where the block lies: in words that never fall, those below t, those that are t and those above t stand in this order, and the counts of words give
 -- the places between them. Assumes nothing.
+use Rattle.std.proofs.Common.{◌-◌, slice_range, drop, length-drop}
+use Rattle.std.specs.List.Sorted.{IsPartitionedBy, IsPartitionPoint}
+use Rattle.std.proofs.lemmas.List.{get_or-take, get_or-drop, get_or_default, length-take}
 use Rattle.std.proofs.Common.{◌≡◌, ℕ, zero, suc, ◌+◌, ◌<◌, ◌≤◌, Bool, true, false, cond, ltb, leb, List, [], ◌∷◌, length, get_or, sym, refl, ap, ◌∙◌, true≢false, suc-le-suc, zero-le, le_trans, le_refl, lt_of_lt_of_le, le_of_suc-le-suc, not-suc-le-zero, zero-lt-suc, lt_of_not-le, arith, below_more, ltb-false, ltb-true, le-ltb, lt-ltb, le-leb, leb-false, leb-true}
 use native.Mathlib.Decide.{dec_le}
 use native.Mathlib.Nat.{le-suc}
@@ -83,6 +86,36 @@ module _ (xs : List ℕ) (t : ℕ) (e : falls xs ≡ false) where
     inside = λ k h l. omega (arith, ltb-false (get_or xs k 0) t (from-split.after k h (le_trans l to-split.within)), leb-true (get_or xs k 0) t (to-split.before k l));
     after = λ k h l. leb-false (get_or xs k 0) t (to-split.after k h l);
   }
+
+-- ---- the block's start, found by halves in a part that holds it
+module _ (xs : List ℕ) (t : ℕ) (e : falls xs ≡ false) (low high : ℕ) (l : low ≤ block_from xs t) (h : block_from xs t ≤ high) (w : high ≤ length xs) where
+  long : length (slice_range xs low high) ≡ high - low
+  long = omega (arith, length-take {A = ℕ}, length-drop {A = ℕ})
+
+  part-below : (k d : ℕ) → k < high - low → ltb (get_or (slice_range xs low high) k d) t ≡ ltb (low + k) (block_from xs t)
+  part-below k d u =
+      let v : low + k < length xs = omega arith in
+      ap (λ (n : ℕ). ltb n t) (get_or-take (high - low) (drop low xs) k d u ∙ get_or-drop low xs k d ∙ get_or_default xs (low + k) d 0 v)
+      ∙ below-start xs t e (low + k) v
+
+  pub parted : IsPartitionedBy (λ n. ltb n t) (slice_range xs low high)
+  parted i j d u v q =
+      let m : low + j < block_from xs t = ltb-true (low + j) (block_from xs t) (sym (part-below j d (omega (arith, long))) ∙ q) in
+      part-below i d (omega (arith, long)) ∙ lt-ltb (low + i) (block_from xs t) (omega arith)
+
+  pub point-is : (i : ℕ) → i ≤ length (slice_range xs low high) → IsPartitionPoint (λ n. ltb n t ≡ true) (λ n. ltb n t ≡ false) (slice_range xs low high) i
+      → low + i ≡ block_from xs t
+  point-is i u p = let m = most i (le_refl i) in let n = least (dec_le (high - low) i) in omega arith
+    where
+      most : (j : ℕ) → j ≤ i → low + j ≤ block_from xs t
+      most zero v = omega arith
+      most (suc j) v =
+          let m = ltb-true (low + j) (block_from xs t) (sym (part-below j 0 (omega (arith, long))) ∙ p.0 j 0 zero-le v) in
+          omega (arith, m)
+
+      least : Dec (high - low ≤ i) → block_from xs t ≤ low + i
+      least (yes v) = omega arith
+      least (no v) = ltb-false (low + i) (block_from xs t) (sym (part-below i 0 (lt_of_not-le v)) ∙ p.1 i 0 (le_refl i) (omega (arith, long, lt_of_not-le v)))
 
 -- ---- the block's end, found by going on from its start
 pub record Running (xs : List ℕ) (t last : ℕ) : Type 0 where

@@ -5,3 +5,4 @@ pub mod whole
 pub mod float
 pub mod states
 pub mod Workers
+pub mod Numbers

@@ -1,8 +1,24 @@
 -- RULES 8, "Matrix elements": what a term of the block adds, and the sum over the block, over any numbers that have a negation and an addition.
 -- Assumes nothing.
-use Rattle.std.specs.Prelude.{ℕ, zero, suc, ◌%◌, Bool, true, false}
+use Rattle.std.specs.Prelude.{ℕ, zero, suc, ◌%◌, Bool, true, false, Option, Some, None, Result, Ok, Err}
 use Rattle.pauli.specs.Pauli.{act_phase}
 use Rattle.encoding.specs.Words.{word, bits}
+use Rattle.encoding.specs.declared.Refusal.{Refusal}
+use Rattle.checked.specs.declared.Complex.{Complex}
+
+-- what a call answers: the complex sum over the block, no block, or a refusal by its number
+abbrev pub Element : Type 0 → Type 0
+Element A = Result (Option (Complex A)) Refusal
+
+module _ {A : Type 0} where
+  abbrev pub Sum : A → A → Element A
+  Sum a b = Ok (Some (record { re = a; im = b }))
+
+  abbrev pub NoBlock : Element A
+  NoBlock = Ok None
+
+  abbrev pub Refused : ℕ → Result A Refusal
+  Refused k = Err (record { 0 = k })
 
 -- the exponent of a term's action on the ket
 abbrev pub exponent_of : ℕ → ℕ → ℕ → ℕ

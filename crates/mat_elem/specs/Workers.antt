@@ -1,25 +1,15 @@
--- What the inner functions of this crate ask and leave: one pass over the terms, where the block lies, how large whole-number sums are, and the float sum
--- from one place up to another. Assumes nothing.
-use Rattle.std.specs.Prelude.{◌≡◌, ℕ, zero, suc, ◌*◌, ◌^◌, ◌<◌, ◌≤◌, Bool, true, false, cond, not, ◌||◌, List, [], ◌∷◌, length, ℤ, pos, bit_xor, nat_le, nat_lt, slice_index, unsigned_abs, Float}
+-- What the inner functions of this crate ask and leave: one pass over the terms, where the block lies, how large whole-number sums are, and the running sum
+-- over pairs. Assumes nothing.
+use Rattle.std.specs.Prelude.{◌≡◌, ℕ, suc, ◌*◌, ◌^◌, ◌<◌, ◌≤◌, Bool, true, false, cond, Option, Result, ok_or, ◌||◌, List, [], ◌∷◌, length, ℤ, bit_xor, nat_le, nat_lt, slice_index, unsigned_abs}
 use Rattle.pauli.specs.Gauss.{Gauss, g0}
-use Rattle.encoding.specs.Refusals.{some, some_below}
+use Rattle.encoding.specs.Refusals.{some, answer_or}
 use Rattle.encoding.specs.Ranks.{TableLine, line, by_rank}
 use Rattle.mat_elem.specs.Terms.{max_terms, bad_count, too_many, unlike_lengths, set_from, high_bits, falls, term_lines}
-use Rattle.mat_elem.specs.Sums.{sum_over}
 use Rattle.checked.specs.Workers.{answer, checked_pair, plus_checked}
-use Rattle.checked.specs.declared.CheckedComplex.{CheckedComplex}
-use Rattle.mat_elem.specs.states.Sums.{Terms, State, coefficient_at, max_vectors, element_at, through}
-use Rattle.mat_elem.specs.whole.Sums as W
-use Rattle.mat_elem.specs.float.Sums as F
+use Rattle.mat_elem.specs.states.Sums.{Total, Terms, State, coefficient_at, max_vectors, element_at, through}
 use Rattle.mat_elem.specs.declared.Place.{Place}
-use Rattle.mat_elem.specs.declared.Found.{Found}
-use Rattle.mat_elem.specs.declared.Found.TheVariants.{Block, Refused}
-use Rattle.mat_elem.specs.declared.whole.Complex.{Complex}
-use Rattle.mat_elem.specs.declared.float.Complex as float
-use Rattle.mat_elem.specs.declared.float.Element as element
-use Rattle.mat_elem.specs.declared.states.Total.{Total}
-use Rattle.mat_elem.specs.declared.states.Total.TheVariants as total
-use Rattle.mat_elem.specs.declared.float.Element.TheVariants as float_element
+use Rattle.encoding.specs.declared.Refusal.{Refusal}
+use Rattle.checked.specs.declared.Complex.{Complex}
 
 -- ---- the table in two parts: what the lengths tell, and what the words tell
 
@@ -69,17 +59,12 @@ pub record PartOf (first last x z reals imags : ℕ) : Type 0 where
   pub few : last ≤ max_terms
 
 -- the number of the table, and, where it is 0, the block from its first place up to, not including, its last; empty where no term has that X
-abbrev pub found_or : ℕ → ℕ → ℕ → Found
-found_or zero first last = Block first last
-found_or (suc k) first last = Refused (suc k)
-
-unfoldable pub found_of : ℕ → List ℕ → List ℕ → ℕ → ℕ → ℕ → ℕ → Found
-found_of n xs zs reals imags bra ket =
-    found_or (by_rank (term_lines n xs zs reals imags bra ket)) (block_from xs (bit_xor bra ket)) (block_to xs (bit_xor bra ket))
+unfoldable pub found_of : ℕ → List ℕ → List ℕ → ℕ → ℕ → ℕ → ℕ → Result Place Refusal
+found_of n xs zs reals imags bra ket = answer_or (by_rank (term_lines n xs zs reals imags bra ket)) (place_of xs (bit_xor bra ket))
 
 -- ---- whole numbers: i32 parts, i64 sums and 65,536 terms (RULES 8.1, 8.7), so that no sum leaves its 64 bits
 
--- of a coefficient, and of a sum
+-- of a part of a coefficient, and of a sum
 abbrev pub part_max : ℕ
 part_max = 2 ^ 31
 
@@ -87,16 +72,13 @@ abbrev pub sum_max : ℕ
 sum_max = max_terms * part_max
 
 -- both parts are at most m in size
-pub record Within (m : ℕ) (c : Complex) : Type 0 where
+pub record Within (m : ℕ) (c : Complex ℤ) : Type 0 where
   pub re-le : unsigned_abs c.re ≤ m
   pub im-le : unsigned_abs c.im ≤ m
 
--- the sum of the terms from `first` up to, not including, n
-abbrev pub no_term : Complex
-no_term = W.complex (pos 0) (pos 0)
-
-abbrev pub part_sum : List ℕ → List ℕ → List ℤ → List ℤ → ℕ → ℕ → ℕ → Complex
-part_sum xs zs re im ket first n = sum_over (λ i. nat_le first i) W.plus no_term (W.term_at xs zs re im ket) n
+-- a is at most as large as so many parts of a coefficient
+abbrev pub reaches : ℕ → ℤ → Type 0
+reaches n a = unsigned_abs a ≤ n * part_max
 
 -- terms among which a block can be searched and summed, by their X words and the numbers of the rest
 pub record Ready (xs : List ℕ) (z reals imags : ℕ) : Type 0 where
@@ -114,29 +96,17 @@ pub record Parted (m reals imags : ℕ) : Type 0 where
   pub re-long : reals ≡ m
   pub im-long : imags ≡ m
 
-abbrev pub ket_step : Terms → State → ℕ → Gauss → CheckedComplex → ℕ → CheckedComplex
+abbrev pub ket_step : Terms → State → ℕ → Gauss → Option (Complex ℤ) → ℕ → Option (Complex ℤ)
 ket_step A ket w b s j = plus_checked s (checked_pair b (coefficient_at ket j) (element_at A w (slice_index ket.words j)))
 
-abbrev pub over_kets : Terms → State → ℕ → Gauss → CheckedComplex → CheckedComplex
+abbrev pub over_kets : Terms → State → ℕ → Gauss → Option (Complex ℤ) → Option (Complex ℤ)
 over_kets A ket w b s = through (ket_step A ket w b) s (length ket.words)
 
-abbrev pub bra_step : Terms → State → State → CheckedComplex → ℕ → CheckedComplex
+abbrev pub bra_step : Terms → State → State → Option (Complex ℤ) → ℕ → Option (Complex ℤ)
 bra_step A bra ket s i = over_kets A ket (slice_index bra.words i) (coefficient_at bra i) s
 
-abbrev pub over_bras : Terms → State → State → CheckedComplex
+abbrev pub over_bras : Terms → State → State → Option (Complex ℤ)
 over_bras A bra ket = through (bra_step A bra ket) (answer true g0) (length bra.words)
 
-abbrev pub total_or : CheckedComplex → Total
-total_or s = cond s.fits (total.Sum s.re s.im) (total.Refused 16)
-
--- ---- floats: the sum from one place up to, not including, another, or 12 where a partial sum is not finite
-
-abbrev pub span_sum : List ℕ → List ℕ → List Float → List Float → ℕ → ℕ → ℕ → float.Complex
-span_sum xs zs re im ket first n = sum_over (λ i. nat_le first i) F.plus (F.complex F.plus_zero F.plus_zero) (F.term_at xs zs re im ket) n
-
-abbrev pub sum_of : float.Complex → element.Element
-sum_of s = float_element.Sum s.re s.im
-
-unfoldable pub span_of : List ℕ → List ℕ → List Float → List Float → ℕ → ℕ → ℕ → element.Element
-span_of xs zs re im ket first last =
-    cond (some_below (suc last) (λ n. not (F.both_finite (span_sum xs zs re im ket first n)))) (float_element.Refused 12) (sum_of (span_sum xs zs re im ket first last))
+abbrev pub total_or : Option (Complex ℤ) → Total
+total_or s = ok_or s (record { 0 = 16 })

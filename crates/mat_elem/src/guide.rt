@@ -12,45 +12,29 @@ pub(crate) const STARTS: usize = 1025;
 
 // So many places does a word go down that its leading bits are left.
 fn shift_of(top: u64) -> usize {
-    let mut s: usize = 0;
-    while s < 54 {
-        if top >> s < 1024 {
-            return s;
-        }
-        s += 1;
-    }
-    s
+    54usize.saturating_sub(top.leading_zeros() as usize)
 }
 
 fn kind(w: u64, shift: usize) -> usize
     ensures { result < 1024 }
 {
     let k = (w >> (shift % 64)) as usize;
-    if k < KINDS { k } else { KINDS - 1 }
+    k.min(KINDS - 1)
 }
 
 // The place after the last word of each kind.
 fn mark(x: &[u64], shift: usize, starts: &mut [usize; STARTS]) {
-    let mut i = 0;
-    while i < x.len() {
-        let k = kind(x[i], shift);
-        starts[k + 1] = i + 1;
-        i += 1;
+    for (i, w) in x.iter().enumerate() {
+        starts[kind(*w, shift) + 1] = i + 1;
     }
-}
-
-fn larger(a: usize, b: usize) -> usize {
-    if a < b { b } else { a }
 }
 
 // A kind that no word has ends where the one before it does.
 fn spread(starts: &mut [usize; STARTS]) {
-    let mut k = 0;
     let mut most = 0;
-    while k < STARTS {
-        most = larger(most, starts[k]);
-        starts[k] = most;
-        k += 1;
+    for start in starts.iter_mut() {
+        most = most.max(*start);
+        *start = most;
     }
 }
 
@@ -59,20 +43,27 @@ pub(crate) fn fill(x: &[u64], pairs: usize, starts: &mut [usize; STARTS]) -> usi
     if pairs < KINDS {
         return 0;
     }
-    if x.len() == 0 {
+    let Some(top) = x.last() else {
         return 0;
-    }
-    let shift = shift_of(x[x.len() - 1]);
+    };
+    let shift = shift_of(*top);
     mark(x, shift, starts);
     spread(starts);
     shift
 }
 
+// The starts, and the shift by which a word's kind is found.
+#[derive(Clone, Copy)]
+pub(crate) struct Guide<'a> {
+    pub(crate) starts: &'a [usize; STARTS],
+    pub(crate) shift: usize,
+}
+
 // Between which places the block of t is looked for first.
-pub(crate) fn guess(starts: &[usize; STARTS], shift: usize, t: u64) -> Place {
-    let k = kind(t, shift);
+pub(crate) fn guess(guide: &Guide<'_>, t: u64) -> Place {
+    let k = kind(t, guide.shift);
     Place {
-        first: starts[k],
-        last: starts[k + 1],
+        first: guide.starts[k],
+        last: guide.starts[k + 1],
     }
 }

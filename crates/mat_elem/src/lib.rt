@@ -3,16 +3,19 @@
 #![tactic(auto)]
 
 ghost use Rattle.std.specs.Prelude.{◌≡◌, suc, ◌^◌, ◌<◌, ◌≤◌, false, length, nat_lt};
+ghost use Rattle.encoding.specs.Refusals.{answer_or, done_or};
 ghost use Rattle.encoding.specs.Ranks.{by_rank};
 ghost use Rattle.mat_elem.specs.Terms.{most_qubits, set_from, falls, lines_to10};
 ghost use Rattle.mat_elem.specs.Workers.{shape_lines, word_lines, Looked, block_from, place_of, found_of};
 ghost use Rattle.mat_elem.specs.Sums.{exponent_of};
 
+use encoding::Refusal;
 use pauli::ComplexSign;
 use std::num::wrapping_sub_u64;
 
 pub mod float;
 mod guide;
+pub mod number;
 pub mod states;
 pub mod whole;
 
@@ -23,6 +26,15 @@ pub const MAX_QUBITS: usize = 64;
 
 pub const MAX_TERMS: usize = 65_536;
 
+// The terms of an operator that is lent to be read: their X and Z words, and the parts of their coefficients.
+#[derive(Clone, Copy)]
+pub(crate) struct Terms<'a, P> {
+    x: &'a [u64],
+    z: &'a [u64],
+    re: &'a [P],
+    im: &'a [P],
+}
+
 // Where the block of a word lies: from its first place up to, not including, its last. Empty where no term has that X.
 #[derive(Drop)]
 pub(crate) struct Place {
@@ -30,13 +42,8 @@ pub(crate) struct Place {
     last: usize,
 }
 
-#[derive(Drop)]
-pub(crate) enum Found {
-    Block(usize, usize),
-    Refused(u8),
-}
-
 // The lines 1 to 3 of the table, which need no look at the terms.
+#[tactic(auto, unfolding(encoding::specs::Ranks::by_rank, encoding::specs::Refusals::answer_or))]
 fn shape_fault(
     n: usize,
     m: usize,
@@ -45,19 +52,19 @@ fn shape_fault(
     imags: usize,
     many: bool,
     unequal: bool,
-) -> u8
-    ensures { result ≡ by_rank (shape_lines n m z reals imags many unequal) }
+) -> Result<(), Refusal>
+    ensures { result ≡ done_or (by_rank (shape_lines n m z reals imags many unequal)) }
 {
     if (n < MIN_QUBITS) | (MAX_QUBITS < n) {
-        return 1;
+        return Err(Refusal::MANY_QUBITS);
     }
     if many | (MAX_TERMS < m) {
-        return 2;
+        return Err(Refusal::MANY_ROWS);
     }
     if unequal | ((z != m) | (reals != m) | (imags != m)) {
-        return 3;
+        return Err(Refusal::WRONG_LENGTHS);
     }
-    0
+    Ok(())
 }
 
 // The largest word of n bits.
@@ -78,8 +85,8 @@ pub(crate) fn above(n: usize, w: u64) -> bool
     top_word(n) < w
 }
 
-// What one pass over the terms finds: the bits that are set in some word, and a fall of X. It has no way out, so that it is compiled for several
-// terms at once.
+// What one pass over the terms finds: the bits that are set in some word, and a fall of X, two findings and no value with its flag. It has no way out,
+// so that it is compiled for several terms at once.
 #[derive(Drop)]
 struct Seen {
     all: u64,
@@ -102,14 +109,11 @@ fn look(x: &[u64], z: &[u64]) -> Seen
     let mut all: u64 = 0;
     let mut fall: u64 = 0;
     let mut prev: u64 = 0;
-    let mut i = 0;
-    while i < x.len() {
+    for i in 0..x.len() {
         let w = x[i];
-        let v = z[i];
-        all = all | w | v;
+        all = all | w | z[i];
         fall = fall | borrow(w, prev);
         prev = w;
-        i += 1;
     }
     Seen {
         all,
@@ -118,38 +122,43 @@ fn look(x: &[u64], z: &[u64]) -> Seen
 }
 
 // The lines 4 to 10.
-fn word_fault(n: usize, x: &[u64], z: &[u64], beside: bool) -> u8
+#[tactic(auto, using(crate::proofs::Bits::bits_seen), unfolding(encoding::specs::Ranks::by_rank, encoding::specs::Refusals::answer_or))]
+fn word_fault(n: usize, x: &[u64], z: &[u64], beside: bool) -> Result<(), Refusal>
     requires { length z.now ≡ length x.now }
-    ensures { result ≡ by_rank (word_lines n (x.now) (z.now) beside) }
+    ensures { result ≡ done_or (by_rank (word_lines n (x.now) (z.now) beside)) }
 {
     let seen = look(x, z);
     if above(n, seen.all) | beside {
-        return 4;
+        return Err(Refusal::SPARE_BITS);
     }
     if seen.falls {
-        return 10;
+        return Err(Refusal::FALLING_X);
     }
-    0
+    Ok(())
 }
 
 // The first of the lines 1 to 10 that fits. Of the coefficients only the lengths of their slices are asked.
-pub(crate) fn term_fault(
+#[tactic(auto, using(crate::proofs::Faults::lines_shape, crate::proofs::Faults::lines_words, crate::proofs::Faults::same_lengths))]
+pub(crate) fn term_fault<P>(
     n: usize,
-    x: &[u64],
-    z: &[u64],
-    reals: usize,
-    imags: usize,
+    terms: &Terms<'_, P>,
     many: bool,
     unequal: bool,
     beside: bool,
-) -> u8
-    ensures { result ≡ by_rank (lines_to10 n (x.now) (z.now) reals imags many unequal beside) }
+) -> Result<(), Refusal>
+    ensures { result ≡ done_or (by_rank
+        (lines_to10 n terms.now.x.now terms.now.z.now (length terms.now.re.now) (length terms.now.im.now) many unequal beside)) }
 {
-    let shape = shape_fault(n, x.len(), z.len(), reals, imags, many, unequal);
-    if shape != 0 {
-        return shape;
-    }
-    word_fault(n, x, z, beside)
+    shape_fault(
+        n,
+        terms.x.len(),
+        terms.z.len(),
+        terms.re.len(),
+        terms.im.len(),
+        many,
+        unequal,
+    )?;
+    word_fault(n, terms.x, terms.z, beside)
 }
 
 // Whether the word at place k is below t: then the block of t starts after it.
@@ -195,17 +204,12 @@ fn lower(x: &[u64], t: u64, low: usize, high: usize) -> usize
     requires low_bound { (low ≤ block_from x.now t) × (block_from x.now t ≤ high) × (high ≤ length x.now) }
     ensures { result ≡ block_from (x.now) t }
 {
-    let mut lo = low;
-    let mut hi = high;
-    while lo < hi {
-        let mid = lo + ((hi - lo) >> 1);
-        if is_below(x, mid, t) {
-            lo = mid + 1;
-        } else {
-            hi = mid;
-        }
-    }
-    lo
+    let part = &x[low..high];
+    low + part.partition_point(
+        |w: &u64| -> bool
+            ensures { result ≡ nat_lt w.now t }
+        { *w < t },
+    )
 }
 
 // The same, looked for between the guessed places first.
@@ -224,39 +228,34 @@ pub(crate) fn block(x: &[u64], t: u64, guess: Place) -> Place
     ensures { result ≡ place_of (x.now) t }
 {
     let first = start(x, t, guess);
-    let mut last = first;
-    while last < x.len() {
+    for last in first..x.len() {
         if x[last] != t {
             return Place { first, last };
         }
-        last += 1;
     }
-    Place { first, last }
+    Place {
+        first,
+        last: x.len(),
+    }
 }
 
 // The first line of the table that fits the terms, or else the block of bra XOR ket.
-pub(crate) fn find_block(
+#[tactic(auto, using(crate::proofs::Faults::number_is, crate::proofs::Faults::found_refused, crate::proofs::Faults::found_rising, crate::proofs::Faults::found_none))]
+pub(crate) fn find_block<P>(
     n: usize,
-    x: &[u64],
-    z: &[u64],
-    reals: usize,
-    imags: usize,
+    terms: &Terms<'_, P>,
     bra: u64,
     ket: u64,
-) -> Found
-    ensures { result ≡ found_of n (x.now) (z.now) reals imags bra ket }
+) -> Result<Place, Refusal>
+    ensures { result ≡ found_of n terms.now.x.now terms.now.z.now (length terms.now.re.now) (length terms.now.im.now) bra ket }
 {
     let beside = above(n, bra) | above(n, ket);
-    let number = term_fault(n, x, z, reals, imags, false, false, beside);
-    if number != 0 {
-        return Found::Refused(number);
-    }
+    term_fault(n, terms, false, false, beside)?;
     let all = Place {
         first: 0,
-        last: x.len(),
+        last: terms.x.len(),
     };
-    let p = block(x, bra ^ ket, all);
-    Found::Block(p.first, p.last)
+    Ok(block(terms.x, bra ^ ket, all))
 }
 
 // The exponent of i of a term's action on the ket.

@@ -35,6 +35,3 @@ module _ (w m : ℕ) (xs zs out : List ℕ) (e : sized w m (length xs) (length z
         x-long = eqb-true (length xs) (m * w) (and_left (eqb (length xs) (m * w)) (eqb (length zs) (m * w)) both);
         z-long = eqb-true (length zs) (m * w) (and_right (eqb (length xs) (m * w)) (eqb (length zs) (m * w)) both);
       }
-
-  pub out-long : length out ≡ m * words_of m
-  out-long = eqb-true (length out) (m * words_of m) (and_right (eqb (length xs) (m * w) && eqb (length zs) (m * w)) (eqb (length out) (m * words_of m)) long)

@@ -2,16 +2,21 @@
 -- stays, and what is at no place stays as it was. Assumes nothing.
 use mathlib.Core.Path.{◌≡◌, refl, sym, ap, ◌∙◌, subst}
 use mathlib.Core.List.{List}
-use Prim.Native.Nat.{ℕ, ◌+◌, ◌*◌, ◌/◌, ◌%◌, ◌≤◌, ◌<◌}
-use native.Mathlib.Nat.{not-suc-le-zero, mul-le-mul}
+use mathlib.Core.List.{◌++◌}
+use Prim.Native.Nat.{ℕ, ◌+◌, ◌-◌, ◌*◌, ◌/◌, ◌%◌, ◌≤◌, ◌<◌}
+use native.Mathlib.Decide.{dec_lt}
+use Rattle.std.proofs.Common.{length-take-le}
+use Rattle.std.proofs.lemmas.List.{get_or-append_right, get_or-take}
+use borrow.Rule.Slice.PartMut.{put_mid, post_of, same_len_mid, mid_len}
+use native.Mathlib.Nat.{mul-le-mul}
 use native.Mathlib.Omega.{arith}
 use borrow.Author.Count.{below_more}
 use lib.Arith.{digits_div, digits_mod}
-use lib.ListN.{length, get_or, set, length-set}
-use lib.Seq.{get_or-set_same, get_or-set_other}
+use lib.ListN.{length, get_or, take, drop, set, length-set, get_or-append}
+use lib.Seq.{get_or-set_same, get_or-set_other, get_or-drop}
 use Rattle.encoding.specs.Limits.{max_rows}
 use Rattle.encoding.proofs.Parts.{row-end}
-use Rattle.matrix.specs.Workers.{wide, Placed}
+use Rattle.matrix.specs.Workers.{wide, Placed, same, always}
 
 -- ---- places
 
@@ -32,9 +37,6 @@ one_word v i k {a} {b} ha hb e = sym (digits_mod i ha) ∙ ap (λ (n : ℕ). n %
 
 -- ---- the loop
 
-pub wrote_none : (from : ℕ) (place value : ℕ → ℕ) (old : List ℕ) → Placed from from place value old old
-wrote_none from place value old = record { long = refl; here = λ i g l. absurd (let z : 1 ≤ 0 = omega (arith, l, g) in not-suc-le-zero z); other = λ p n. refl }
-
 pub wrote-more : {from i : ℕ} {place value : ℕ → ℕ} {old t : List ℕ} (p x : ℕ) → Placed from i place value old t → from ≤ i → p < length old → p ≡ place i → x ≡ value i
     → ((r : ℕ) → from ≤ r → r < i → place r ≡ p → ⊥) → Placed from (i + 1) place value old (set t p x)
 wrote-more {from} {i} {place} {value} {old} {t} p x g f l e v n =
@@ -52,3 +54,33 @@ wrote-more {from} {i} {place} {value} {old} {t} p x g f l e v n =
 
 pub wrote-all : {from to i : ℕ} {place value : ℕ → ℕ} {old t : List ℕ} → Placed from i place value old t → i ≤ to → to ≤ i → Placed from to place value old t
 wrote-all {from} {to} {i} {place} {value} {old} {t} g h k = subst (λ (n : ℕ). Placed from n place value old t) (let e : i ≡ to = omega arith in e) g
+
+-- ---- a part that was filled with one value
+
+pub filled : (from to v : ℕ) (old mid : List ℕ) → from ≤ to → to ≤ length old → length mid ≡ to - from → ((k : ℕ) → k < to - from → get_or mid k 0 ≡ v)
+    → Placed from to same (always v) old (put_mid from (to - from) old mid)
+filled from to v old mid h k l f =
+    record {
+      long = same_len_mid from (to - from) old mid (l ∙ sym (mid_len from to old k));
+      here = λ i g q. behind i g ∙ get_or-append mid after 0 (i - from) (omega (arith, g, q)) ∙ f (i - from) (omega (arith, g, q));
+      other = λ p n. go p n (dec_lt p from) (dec_lt p to);
+    }
+  where
+    after : List ℕ
+    after = post_of from (to - from) old
+
+    front : length (take from old) ≡ from
+    front = length-take-le from old (omega arith)
+
+    behind : (i : ℕ) → from ≤ i → get_or (take from old ++ (mid ++ after)) i 0 ≡ get_or (mid ++ after) (i - from) 0
+    behind i g = get_or-append_right (take from old) (mid ++ after) from i 0 front g
+
+    go : (p : ℕ) → ((i : ℕ) → from ≤ i → i < to → p ≡ i → ⊥) → Dec (p < from) → Dec (p < to) → get_or (take from old ++ (mid ++ after)) p 0 ≡ get_or old p 0
+    go p n (yes b) e = get_or-append (take from old) (mid ++ after) 0 p (omega (arith, front)) ∙ get_or-take from old p 0 b
+    go p n (no b) (yes e) = absurd (n p (omega arith) e refl)
+    go p n (no b) (no e) =
+        behind p (omega arith)
+        ∙ get_or-append_right mid after (to - from) (p - from) 0 l (omega arith)
+        ∙ get_or-drop (to - from) (drop from old) (p - from - (to - from)) 0
+        ∙ get_or-drop from old (to - from + (p - from - (to - from))) 0
+        ∙ ap (λ (i : ℕ). get_or old i 0) (let e : from + (to - from + (p - from - (to - from))) ≡ p = omega arith in e)

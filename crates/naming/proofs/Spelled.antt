@@ -1,50 +1,45 @@
--- Names: a name ends where the scan stops, and bytes compared one by one are compared. What is left to compare is compared as the whole is, since
--- what was passed was the same (`drop-cons`).
-use Rattle.text.proofs.Kit.{◌≡◌, refl, ap, ◌∙◌, Bool, true, false, ◌&&◌, List, [], ◌∷◌, ℕ, suc, ◌+◌, ◌<◌, ◌≤◌, arith, length, drop, get_or, eqb, eq-eqb, ne_eqb, add-one, drop-cons, drop_of_length-le}
+-- Names: a name ends at the first space or with the line, and two texts are the same where they are so byte by byte. By cases. Assumes nothing.
+use Rattle.std.specs.Option.{unwrap_or}
+use Rattle.std.specs.List.{position, prefix_len}
+use Rattle.text.proofs.Kit.{◌≡◌, refl, ap, ◌∙◌, Bool, true, false, cond, ◌&&◌, List, [], ◌∷◌, ℕ, suc, ◌+◌, ◌≤◌, arith, length, eqb}
 use Rattle.naming.specs.Names.{same, name_end}
+use lib.Pointwise.{pointwise}
+use Rattle.std.specs.Prelude.{Some, None, not, ◌==◌, nat_lt}
+use borrow.Author.Tests.{ltb-false}
 
--- ---- where a name ends: so far and what is left
-
-pub end-first : (s : List ℕ) → name_end s ≡ 0 + name_end (drop 0 s)
-end-first s = omega arith
-
-module _ (s : List ℕ) (i : ℕ) where
-  pub end-here : i < length s → get_or s i 0 ≡ 32 → name_end s ≡ i + name_end (drop i s) → i ≡ name_end s
-  unfolding name_end
-  end-here h e k =
-      let z : name_end (drop i s) ≡ 0 = ap name_end (drop-cons s i 0 h) ∙ rw (eq-eqb (get_or s i 0) 32 e) in
-      omega arith
-
-  pub end_on : i < length s → (get_or s i 0 ≡ 32 → ⊥) → name_end s ≡ i + name_end (drop i s) → name_end s ≡ i + 1 + name_end (drop (i + 1) s)
-  unfolding name_end
-  end_on h e k =
-      let z : name_end (drop i s) ≡ suc (name_end (drop (suc i) s)) = ap name_end (drop-cons s i 0 h) ∙ rw (ne_eqb (get_or s i 0) 32 e) in
-      rw (add-one i) (omega arith)
-
-  pub end-last : length s ≤ i → name_end s ≡ i + name_end (drop i s) → i ≡ name_end s
-  unfolding name_end
-  end-last h k =
-      let z : name_end (drop i s) ≡ 0 = ap name_end (drop_of_length-le s h) in
-      omega arith
-
--- ---- whether two texts are the same
-
-pub same-lengths : (s t : List ℕ) → (length s ≡ length t → ⊥) → same s t ≡ false
-same-lengths [] [] h = absurd (h refl)
-same-lengths [] (d ∷ t) h = refl
-same-lengths (c ∷ s) [] h = refl
-same-lengths (c ∷ s) (d ∷ t) h = go (eqb c d) (same-lengths s t (λ e. h (ap suc e)))
+prefix-is : (s : List ℕ) → prefix_len (λ (c : ℕ). not (c == 32)) s ≡ name_end s
+unfolding name_end
+prefix-is [] = refl
+prefix-is (c ∷ s) = go (c == 32) (prefix-is s)
   where
-    go : (b : Bool) → same s t ≡ false → (b && same s t) ≡ false
-    go true e = e
-    go false e = refl
+    go : (b : Bool) → prefix_len (λ (c : ℕ). not (c == 32)) s ≡ name_end s
+        → cond (not b) (1 + prefix_len (λ (c : ℕ). not (c == 32)) s) 0 ≡ cond b 0 (suc (name_end s))
+    go true e = refl
+    go false e = omega (arith, e)
 
-module _ (s t : List ℕ) (i : ℕ) (h : i < length s) (k : i < length t) where
-  pub same-on : get_or s i 0 ≡ get_or t i 0 → same (drop i s) (drop i t) ≡ same (drop (i + 1) s) (drop (i + 1) t)
-  same-on e = rw (add-one i, drop-cons s i 0 h, drop-cons t i 0 k, eq-eqb (get_or s i 0) (get_or t i 0) e)
+pub end-within : (s : List ℕ) → name_end s ≤ length s
+unfolding name_end
+end-within [] = omega arith
+end-within (c ∷ s) = go (eqb c 32) (end-within s)
+  where
+    go : (b : Bool) → name_end s ≤ length s → cond b 0 (suc (name_end s)) ≤ suc (length s)
+    go true e = omega arith
+    go false e = omega (arith, e)
 
-  pub same_not : (get_or s i 0 ≡ get_or t i 0 → ⊥) → same (drop i s) (drop i t) ≡ false
-  same_not e = rw (drop-cons s i 0 h, drop-cons t i 0 k, ne_eqb (get_or s i 0) (get_or t i 0) e)
+or-end : (k n : ℕ) → k ≤ n → unwrap_or (cond (nat_lt k n) (Some k) None) n ≡ k
+or-end k n h = go (nat_lt k n) refl
+  where
+    go : (b : Bool) → nat_lt k n ≡ b → unwrap_or (cond b (Some k) None) n ≡ k
+    go true e = refl
+    go false e = let g = ltb-false k n e in omega arith
 
-pub same-all : (s t : List ℕ) (i : ℕ) → length s ≤ i → length t ≤ i → same (drop i s) (drop i t) ≡ true
-same-all s t i h k = rw (drop_of_length-le s h, drop_of_length-le t k)
+pub end-first : (s : List ℕ) → unwrap_or (position (λ (c : ℕ). c == 32) s) (length s) ≡ name_end s
+end-first s =
+    let e = prefix-is s in
+    or-end (prefix_len (λ (c : ℕ). not (c == 32)) s) (length s) (omega (arith, e, end-within s)) ∙ e
+
+pub same-pointwise : (s t : List ℕ) → same s t ≡ pointwise eqb s t
+same-pointwise [] [] = refl
+same-pointwise [] (d ∷ t) = refl
+same-pointwise (c ∷ s) [] = refl
+same-pointwise (c ∷ s) (d ∷ t) = ap (λ (b : Bool). eqb c d && b) (same-pointwise s t)

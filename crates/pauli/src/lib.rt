@@ -3,7 +3,7 @@
 #![tactic(auto)]
 
 // One of the four Pauli matrices.
-#[derive(Clone, Copy)]
+#[derive(Clone, Copy, Debug, PartialEq, Eq)]
 pub enum PauliMatrix {
     I,
     X,
@@ -12,13 +12,13 @@ pub enum PauliMatrix {
 }
 
 // A power of i, by its exponent.
-#[derive(Clone, Copy)]
+#[derive(Clone, Copy, Debug, PartialEq, Eq)]
 pub struct ComplexSign(pub u8);
 
 // The number of a row in a set.
-#[derive(Clone, Copy)]
+#[derive(Clone, Copy, Debug, PartialEq, Eq)]
 pub struct RowNumber(pub usize);
 
 // The number of a qubit in a row.
-#[derive(Clone, Copy)]
+#[derive(Clone, Copy, Debug, PartialEq, Eq)]
 pub struct QubitNumber(pub usize);

@@ -1,6 +1,6 @@
 -- A row acts on a state in place: of the state, words below i are the exclusive or with X and the others as they were, and the exponent so far with that
 -- of the words from i on is the whole, mod 4 (`Turned`). Each word brings at most 3, so the sum stays small. Assumes nothing.
-use Rattle.std.proofs.Common.{◌≡◌, ℕ, suc, ◌+◌, ◌*◌, ◌%◌, ◌<◌, ◌≤◌, Bool, List, ◌++◌, length, get_or, take, drop, set, sym, refl, ap, ◌∙◌, ap₂, zero-le, zero-add, add-one, arith, length-set, drop-cons}
+use Rattle.std.proofs.Common.{◌≡◌, ℕ, suc, ◌+◌, ◌*◌, ◌%◌, ◌<◌, ◌≤◌, Bool, List, ◌++◌, length, get_or, take, drop, set, sym, refl, ap, ◌∙◌, ap₂, add-one, arith, drop-cons}
 use lib.Bits.{bit_xor}
 use lib.Seq.{drop-length}
 use Rattle.pauli.specs.Pauli.{act_phase}
@@ -14,9 +14,7 @@ abbrev rest : List ℕ → List ℕ → List ℕ → ℕ → ℕ
 rest lx lz st i = act_phase (unpack (drop i lx) (drop i lz)) (unbits (drop i st))
 
 pub record Turned (lx lz st₀ st : List ℕ) (e i : ℕ) : Type 0 where
-  pub le : i ≤ length lx
   pub small : e ≤ 3 * i
-  pub long : length st ≡ length lx
   pub words : st ≡ take i (xors lx st₀) ++ drop i st₀
   pub exponent : (e + rest lx lz st₀ i) % 4 ≡ act_phase (unpack lx lz) (unbits st₀) % 4
 
@@ -31,10 +29,6 @@ module _ (lx lz st₀ : List ℕ) (hz : length lz ≡ length lx) (hs : length st
       rw (add-one i, drop-cons lx i 0 h, drop-cons lz i 0 (omega arith), drop-cons st₀ i 0 (omega arith))
       (unbits-total (get_or lx i 0) (get_or lz i 0) (get_or st₀ i 0) (drop (suc i) lx) (drop (suc i) lz) (drop (suc i) st₀))
 
-  pub turned_none : Turned lx lz st₀ st₀ 0 0
-  turned_none =
-      record { le = zero-le; small = zero-le; long = hs; words = refl; exponent = ap (λ (n : ℕ). n % 4) (zero-add (rest lx lz st₀ 0)) }
-
   pub turned_more : {st : List ℕ} {e i : ℕ} (p : ℕ) → Turned lx lz st₀ st e i → i < length lx
       → p ≡ act_phase (word 64 (get_or lx i 0) (get_or lz i 0)) (bits 64 (get_or st i 0)) % 4
       → Turned lx lz st₀ (set st i (bit_xor (get_or lx i 0) (get_or st i 0))) (e + p) (i + 1)
@@ -43,16 +37,13 @@ module _ (lx lz st₀ : List ℕ) (hz : length lz ≡ length lx) (hs : length st
       ap (λ (l : List ℕ). get_or l i 0) t.words ∙ front_at (xors lx st₀) st₀ i (omega (arith, length-xors lx st₀ hs)) in
       let q' : p ≡ act_phase (word 64 (get_or lx i 0) (get_or lz i 0)) (bits 64 (get_or st₀ i 0)) % 4 = rw at at q in
       record {
-        le = omega arith;
         small = omega arith;
-        long = length-set st i (bit_xor (get_or lx i 0) (get_or st i 0)) ∙ t.long;
         words = ap (λ (v : ℕ). set st i (bit_xor (get_or lx i 0) v)) at ∙ word_more (length lx) lx st₀ st₀ st i refl hs hs h t.words;
         exponent = omega (arith, rest_more i h);
       }
 
-  pub turned-all : {st : List ℕ} {e i : ℕ} → Turned lx lz st₀ st e i → length lx ≤ i → Fit lx → Fit st₀ → Acted lx lz st₀ st (e % 4)
-  turned-all {st} {e} {i} t h f g =
-      let end : i ≡ length lx = omega (arith, t.le) in
+  pub turned-all : {st : List ℕ} {e i : ℕ} → Turned lx lz st₀ st e i → i ≡ length lx → Fit lx → Fit st₀ → Acted lx lz st₀ st (e % 4)
+  turned-all {st} {e} {i} t end f g =
       let b : Bool → Bool = λ x. x in
       record {
         state =

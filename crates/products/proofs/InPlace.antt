@@ -1,8 +1,6 @@
 -- A row of a set is multiplied in place by a row of the same set: words below i of the target's part are the product's, and all else is as it was
 -- (`Inplace`). The two parts are the same or apart, so word i of both is still the old one when it is its turn. Assumes nothing.
-use Rattle.std.proofs.Common.{◌≡◌, ℕ, ◌+◌, ◌-◌, ◌*◌, ◌%◌, ◌^◌, ◌<◌, ◌≤◌, Bool, true, false, ◌&&◌, ◌||◌, eqb, leb, ◌⊎◌, List, ◌++◌, length, get_or, take, drop, set, sym, refl, ap, ◌∙◌, subst, ap₂, inl, inr, zero-le, le-add_right, arith, length-set, drop-set-lt, eq-eqb, eqb-true, le-leb, leb-true}
-use mathlib.Core.Bool.{false≢true}
-use borrow.Author.Tests.{lt-leb}
+use Rattle.std.proofs.Common.{◌≡◌, ℕ, ◌+◌, ◌-◌, ◌*◌, ◌%◌, ◌^◌, ◌<◌, ◌≤◌, Bool, true, ◌&&◌, ◌||◌, eqb, leb, ◌⊎◌, List, ◌++◌, length, get_or, take, drop, set, sym, refl, ap, ◌∙◌, subst, ap₂, inl, inr, le-add_right, arith, length-set, drop-set-lt, eq-eqb, eqb-true, le-leb, leb-true}
 use native.Mathlib.Nat.{add-sub_cancel_left}
 use lib.Bits.{bit_xor}
 use lib.Seq.{take-set-lt, drop-set-add, take-set-le}
@@ -12,9 +10,9 @@ use Rattle.pauli.proofs.Bools.{and-true, or-true-or, or_left, or_right}
 use Rattle.products.specs.declared.Factor.{Factor}
 use Rattle.encoding.specs.Words.{word}
 use Rattle.encoding.specs.Set.{part}
-use Rattle.products.specs.Leaves.{SameLength, Outside, Product, Multiplied, Room, inside, ProductIn}
+use Rattle.products.specs.Leaves.{SameLength, Outside, Product, Multiplied, Room, inside}
 use Rattle.encoding.proofs.WordLaws.{Fit, xors}
-use Rattle.products.proofs.RowLaws.{Done, done_none, done_more, done_all, length-xors, front_at}
+use Rattle.products.proofs.RowLaws.{Done, done_more, done_all, length-xors, front_at}
 use Rattle.encoding.proofs.Parts.{length_part, get_d_part, fit-part}
 use Rattle.products.proofs.PartLaws.{part-below, part-above}
 
@@ -34,7 +32,6 @@ outside_set {a} {w} {old} {new} i v o h =
 -- ---- the loop, i words done
 
 pub record Inplace (w s t : ℕ) (xs₀ zs₀ xs zs : List ℕ) (n f i : ℕ) : Type 0 where
-  pub le : i ≤ w
   pub done : Done (part s (s + w) xs₀) (part s (s + w) zs₀) (part t (t + w) xs₀) (part t (t + w) zs₀) (part s (s + w) xs₀) (part s (s + w) zs₀) (part s (s + w) xs) (part s (s + w) zs) n f i
   pub x-rest : Outside s (s + w) xs₀ xs
   pub z-rest : Outside s (s + w) zs₀ zs
@@ -48,15 +45,6 @@ module _ {w s t : ℕ} {xs₀ zs₀ : List ℕ} (m : Room w s t xs₀ zs₀) whe
       let e = sym (long s xs₀ m.s-x) in
       let sz = long s zs₀ m.s-z ∙ e in
       record { in-lx = refl; in-lz = sz; in-rx = long t xs₀ m.t-x ∙ e; in-rz = long t zs₀ m.t-z ∙ e; in-ox = refl; in-oz = sz }
-
-  pub inplace-none : Inplace w s t xs₀ zs₀ xs₀ zs₀ 0 0 0
-  inplace-none =
-      record {
-        le = zero-le;
-        done = done_none same;
-        x-rest = record { long = refl; before = refl; after = refl };
-        z-rest = record { long = refl; before = refl; after = refl };
-      }
 
   -- what is read: at s the words from i on are as they were, and at t too
   read-s : (i : ℕ) (old new v : List ℕ) → i < w → i ≤ length v → part s (s + w) new ≡ take i v ++ drop i (part s (s + w) old)
@@ -89,31 +77,24 @@ module _ {w s t : ℕ} {xs₀ zs₀ : List ℕ} (m : Room w s t xs₀ zs₀) whe
       let e₃ : get_or xs (t + i) 0 ≡ get_or (part t (t + w) xs₀) i 0 = read-t i xs₀ xs vx q.x-rest h kx q.done.x-words in
       let e₄ : get_or zs (t + i) 0 ≡ get_or (part t (t + w) zs₀) i 0 = read-t i zs₀ zs vz q.z-rest h kz q.done.z-words in
       record {
-        le = omega arith;
         done = rw (part-set s w xs i (bit_xor (get_or xs (s + i) 0) (get_or xs (t + i) 0)) h, part-set s w zs i (bit_xor (get_or zs (s + i) 0) (get_or zs (t + i) 0)) h, e₁, e₂, e₃, e₄)
             (done_more same n' f' q.done (omega arith) (rw (e₁, e₂, e₃, e₄) at en) (rw (e₁, e₂, e₃, e₄) at ef));
         x-rest = outside_set i (bit_xor (get_or xs (s + i) 0) (get_or xs (t + i) 0)) q.x-rest h;
         z-rest = outside_set i (bit_xor (get_or zs (s + i) 0) (get_or zs (t + i) 0)) q.z-rest h;
       }
 
-  pub inplace-all : {xs zs : List ℕ} {n f i : ℕ} {r : Factor} → Inplace w s t xs₀ zs₀ xs zs n f i → w ≤ i → Fit xs₀ → Fit zs₀
+  pub inplace-all : {xs zs : List ℕ} {n f i : ℕ} {r : Factor} → Inplace w s t xs₀ zs₀ xs zs n f i → i ≡ w → Fit xs₀ → Fit zs₀
       → r.phase.0 ≡ (n + 2 * ones f) % 4 → r.clashes ≡ n % 65536
       → Product (part s (s + w) xs₀) (part s (s + w) zs₀) (part t (t + w) xs₀) (part t (t + w) zs₀) (part s (s + w) xs) (part s (s + w) zs) r
   inplace-all {xs} {zs} {n} {f} {i} q h fx fz ee en =
       let lx : length (part s (s + w) xs₀) ≡ w = long s xs₀ m.s-x in
       done_all same q.done (omega arith) (fit-part s (s + w) xs₀ fx) (fit-part s (s + w) zs₀ fz) (fit-part t (t + w) xs₀ fx) (fit-part t (t + w) zs₀ fz) ee en
 
-  pub multiplied : {xs zs : List ℕ} {n f i : ℕ} {r : Factor} → Inplace w s t xs₀ zs₀ xs zs n f i → w ≤ i → Fit xs₀ → Fit zs₀
+  pub multiplied : {xs zs : List ℕ} {n f i : ℕ} {r : Factor} → Inplace w s t xs₀ zs₀ xs zs n f i → i ≡ w → Fit xs₀ → Fit zs₀
       → r.phase.0 ≡ (n + 2 * ones f) % 4 → r.clashes ≡ n % 65536 → Multiplied w s t xs₀ zs₀ xs zs r
   multiplied q h fx fz ee en = record { here = inplace-all q h fx fz ee en; x-rest = q.x-rest; z-rest = q.z-rest }
 
 -- ---- the tests as the code makes them
-
-pub lies_in : (s w x z : ℕ) → s ≤ x → w ≤ x - s → leb (s + w) z ≡ (leb (s + w) x && leb (s + w) z)
-lies_in s w x z h k = ap (λ (b : Bool). b && leb (s + w) z) (sym (le-leb (s + w) x (omega arith)))
-
-pub lies_out : (s w x z : ℕ) → x < s + w → false ≡ (leb (s + w) x && leb (s + w) z)
-lies_out s w x z h = ap (λ (b : Bool). b && leb (s + w) z) (sym (lt-leb (s + w) x h))
 
 module _ (w s t : ℕ) (xs zs : List ℕ) where
   pub room_of : (a b c : Bool) → a ≡ (leb (s + w) (length xs) && leb (s + w) (length zs)) → b ≡ (leb (t + w) (length xs) && leb (t + w) (length zs))
@@ -136,32 +117,6 @@ module _ (w s t : ℕ) (xs zs : List ℕ) where
           more : (leb (s + w) t ≡ true) ⊎ (leb (t + w) s ≡ true) → (s + w ≤ t) ⊎ (t + w ≤ s)
           more (inl e) = inl (leb-true (s + w) t e)
           more (inr e) = inr (leb-true (t + w) s e)
-
-  pub inside_of : {a b c : Bool} → a ≡ (leb (s + w) (length xs) && leb (s + w) (length zs)) → b ≡ (leb (t + w) (length xs) && leb (t + w) (length zs))
-      → c ≡ (eqb s t || (leb (s + w) t || leb (t + w) s)) → inside w s t xs zs ≡ (a && (b && c))
-  inside_of ea eb ec = sym (ap₂ ◌&&◌ ea (ap₂ ◌&&◌ eb ec))
-
-  -- one of the parts does not lie inside
-  pub outside-s : {a : Bool} → a ≡ (leb (s + w) (length xs) && leb (s + w) (length zs)) → a ≡ false → inside w s t xs zs ≡ false
-  outside-s ea f = ap (λ (b : Bool). b && ((leb (t + w) (length xs) && leb (t + w) (length zs)) && (eqb s t || (leb (s + w) t || leb (t + w) s)))) (sym ea ∙ f)
-
-  pub outside-t : {a b : Bool} → a ≡ (leb (s + w) (length xs) && leb (s + w) (length zs)) → a ≡ true → b ≡ (leb (t + w) (length xs) && leb (t + w) (length zs)) → b ≡ false
-      → inside w s t xs zs ≡ false
-  outside-t ea ta eb f = ap₂ (λ (b c : Bool). b && (c && (eqb s t || (leb (s + w) t || leb (t + w) s)))) (sym ea ∙ ta) (sym eb ∙ f)
-
-  -- the parts lie inside: the product is done
-  pub done-in : {xs' zs' : List ℕ} {e : Factor} → inside w s t xs zs ≡ true → Multiplied w s t xs zs xs' zs' e → ProductIn w s t xs zs xs' zs' e
-  done-in {xs'} {zs'} {e} t₁ q = record { done = λ _. q; x-kept = λ f. absurd (no f); z-kept = λ f. absurd (no f); none = λ f. absurd (no f) }
-    where
-      no : inside w s t xs zs ≡ false → ⊥
-      no f = false≢true (sym f ∙ t₁)
-
-  -- they do not: nothing is done
-  pub kept_in : {r : Factor} → r.phase.0 ≡ 0 → r.clashes ≡ 0 → inside w s t xs zs ≡ false → ProductIn w s t xs zs xs zs r
-  kept_in ee en f = record { done = λ t₁. absurd (no t₁); x-kept = λ _. refl; z-kept = λ _. refl; none = λ _. record { exponent = ee; number = en } }
-    where
-      no : inside w s t xs zs ≡ true → ⊥
-      no t₁ = false≢true (sym f ∙ t₁)
 
   -- and the other way round
   pub inside_is : Room w s t xs zs → inside w s t xs zs ≡ true

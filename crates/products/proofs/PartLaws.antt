@@ -1,6 +1,6 @@
 -- Parts of words that are written: what stands there, and what writing one leaves of the others. Words are what lies before a part, the part, and what
 -- lies behind it, so that they are settled by the part and by what is outside (`outside-one`). Assumes nothing.
-use Rattle.std.proofs.Common.{◌≡◌, ℕ, zero, suc, ◌+◌, ◌-◌, ◌*◌, ◌%◌, ◌<◌, ◌≤◌, Bool, ◌≢◌, List, [], ◌∷◌, ◌++◌, length, take, drop, sym, refl, ap, ◌∙◌, subst, ap₂, zero-le, arith, length-take-le, take_all, take-take, drop-drop, take_at, drop_at}
+use Rattle.std.proofs.Common.{◌≡◌, ℕ, zero, suc, ◌+◌, ◌-◌, ◌*◌, ◌%◌, ◌<◌, ◌≤◌, Bool, ◌≢◌, List, [], ◌∷◌, ◌++◌, length, take, drop, sym, refl, ap, ◌∙◌, subst, ap₂, arith, length-take-le, take_all, take-take, drop-drop, take_at, drop_at}
 use native.Mathlib.Decide.{dec_lt}
 use lib.Arith.{lt_of_le-ne}
 use native.Mathlib.Nat.{add-sub_cancel_left}
@@ -10,7 +10,7 @@ use Rattle.pauli.specs.Pauli.{Pauli, has_x, has_z, mul, act, act_phase}
 use Rattle.encoding.specs.Words.{unpack, unbits, pack}
 use Rattle.encoding.specs.Set.{part, row}
 use Rattle.products.specs.declared.Factor.{Factor}
-use Rattle.products.specs.Leaves.{FactorOf, Acted, ActedAt, RowAction, SameLength, Outside, Product, ProductAt, RowProduct, shortest₃, shortest₆}
+use Rattle.products.specs.Leaves.{FactorOf, Acted, RowAction, SameLength, Outside, Product, ProductAt, RowProduct, shortest₃, shortest₆}
 
 -- the parts from a to e of six runs that all reach e
 pub parts_same : (lx lz rx rz ox oz : List ℕ) (a e : ℕ) → a ≤ e → e ≤ length lx → e ≤ length lz → e ≤ length rx → e ≤ length rz → e ≤ length ox → e ≤ length oz
@@ -87,23 +87,6 @@ row_other w k r {old} {new} o ne = go (dec_lt k r)
     go : Dec (k < r) → row w k new ≡ row w k old
     go (yes h) = part-below o (omega arith) (row-end k w h)
     go (no h) = part-above (k * w + w) o (row-end r w (lt_of_le-ne (omega arith) (λ (e : r ≡ k). ne (sym e))))
-
--- the same of an action
-pub acted-at : {lx lz : List ℕ} (st : List ℕ) (k : ℕ) {p : List ℕ} {e : ℕ} → k ≤ length st → length p ≡ length (part 0 k st)
-    → Acted (part 0 k lx) (part 0 k lz) (part 0 k st) p e → ActedAt k lx lz st (put_mid 0 (k - 0) st p) e
-acted-at {lx} {lz} st k {p} {e} h l q =
-    let l' : length p ≡ k - 0 = l ∙ length_part 0 k st zero-le h in
-    record {
-      here = subst (λ (u : List ℕ). Acted (part 0 k lx) (part 0 k lz) (part 0 k st) u e) (sym (part-put 0 k st p zero-le h l')) q;
-      rest = outside-put 0 k st p zero-le h l';
-    }
-
--- the same up to a length that is written otherwise
-pub product-up-to : {k k' : ℕ} {lx lz rx rz ox oz ox' oz' : List ℕ} {e : Factor} → k ≡ k' → ProductAt 0 k lx lz rx rz ox oz ox' oz' e → ProductAt 0 k' lx lz rx rz ox oz ox' oz' e
-product-up-to {k} {k'} {lx} {lz} {rx} {rz} {ox} {oz} {ox'} {oz'} {e} q p = subst (λ (j : ℕ). ProductAt 0 j lx lz rx rz ox oz ox' oz' e) q p
-
-pub acted-up-to : {k k' : ℕ} {lx lz st st' : List ℕ} {e : ℕ} → k ≡ k' → ActedAt k lx lz st st' e → ActedAt k' lx lz st st' e
-acted-up-to {k} {k'} {lx} {lz} {st} {st'} {e} q p = subst (λ (j : ℕ). ActedAt j lx lz st st' e) q p
 
 -- ---- parts of the same length: the leaf does all of them
 

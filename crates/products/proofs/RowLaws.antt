@@ -1,6 +1,6 @@
 -- What a loop over the words of rows keeps: the words written so far, and counts that with those of the words to come are the whole counts (`Done`,
 -- `Adding`). A word more moves its clashes and its threes from what is to come to what is counted. Assumes nothing.
-use Rattle.std.proofs.Common.{◌≡◌, ℕ, zero, suc, ◌+◌, ◌*◌, ◌%◌, ◌^◌, ◌<◌, ◌≤◌, eqb, List, [], ◌∷◌, ◌++◌, length, get_or, take, drop, set, sym, refl, ap, ◌∙◌, ap₂, zero-le, le_of_suc-le-suc, not-suc-le-zero, zero-add, add-one, arith, length-set, drop_of_length-le, drop-cons}
+use Rattle.std.proofs.Common.{◌≡◌, ℕ, zero, suc, ◌+◌, ◌*◌, ◌%◌, ◌^◌, ◌<◌, ◌≤◌, List, [], ◌∷◌, ◌++◌, length, get_or, take, drop, set, sym, refl, ap, ◌∙◌, ap₂, le_of_suc-le-suc, not-suc-le-zero, zero-add, add-one, arith, drop_of_length-le, drop-cons}
 use native.Mathlib.Nat.{suc_inj}
 use lib.Bits.{bit_xor, xor_lt}
 use native.Mathlib.Decide.{dec_lt}
@@ -171,23 +171,16 @@ module _ (lx lz rx rz : List ℕ) where
         number = omega (arith, to-come-none clash lx lz rx rz i h, s.number);
       }
 
--- the number of clashes is even, also where it wraps
-pub even-number : {l r : List Pauli} {f : Factor} → FactorOf l r f → eqb (f.clashes % 2) 0 ≡ eqb (clashes l r % 2) 0
-even-number {l} {r} {f} o = let e : f.clashes % 2 ≡ clashes l r % 2 = omega (arith, o.number) in ap (λ (k : ℕ). eqb k 0) e
-
 -- ---- the loop of a row's product, i words done
 
 pub record Done (lx lz rx rz ox₀ oz₀ ox oz : List ℕ) (n f i : ℕ) : Type 0 where
-  pub le : i ≤ length lx
-  pub x-long : length ox ≡ length lx
-  pub z-long : length oz ≡ length lx
   pub x-words : ox ≡ take i (xors lx rx) ++ drop i ox₀
   pub z-words : oz ≡ take i (xors lz rz) ++ drop i oz₀
   pub sums : Adding lx lz rx rz n f i
 
 module _ {lx lz rx rz ox₀ oz₀ : List ℕ} (s : SameLength (length lx) lx lz rx rz ox₀ oz₀) where
   pub done_none : Done lx lz rx rz ox₀ oz₀ ox₀ oz₀ 0 0 0
-  done_none = record { le = zero-le; x-long = s.in-ox; z-long = s.in-oz; x-words = refl; z-words = refl; sums = adding-none lx lz rx rz }
+  done_none = record { x-words = refl; z-words = refl; sums = adding-none lx lz rx rz }
 
   pub done_more : {ox oz : List ℕ} {n f i : ℕ} (n' f' : ℕ) → Done lx lz rx rz ox₀ oz₀ ox oz n f i → i < length lx
       → n' ≡ (n + clashes (word 64 (get_or lx i 0) (get_or lz i 0)) (word 64 (get_or rx i 0) (get_or rz i 0))) % 2 ^ 64
@@ -195,18 +188,14 @@ module _ {lx lz rx rz ox₀ oz₀ : List ℕ} (s : SameLength (length lx) lx lz 
       → Done lx lz rx rz ox₀ oz₀ (set ox i (bit_xor (get_or lx i 0) (get_or rx i 0))) (set oz i (bit_xor (get_or lz i 0) (get_or rz i 0))) n' f' (i + 1)
   done_more {ox} {oz} {n} {f} {i} n' f' d h en ef =
       record {
-        le = omega arith;
-        x-long = length-set ox i (bit_xor (get_or lx i 0) (get_or rx i 0)) ∙ d.x-long;
-        z-long = length-set oz i (bit_xor (get_or lz i 0) (get_or rz i 0)) ∙ d.z-long;
         x-words = word_more (length lx) lx rx ox₀ ox i refl s.in-rx s.in-ox h d.x-words;
         z-words = word_more (length lx) lz rz oz₀ oz i s.in-lz s.in-rz s.in-oz h d.z-words;
         sums = adding-more lx lz rx rz n' f' d.sums (omega (arith, s.in-lz, s.in-rx, s.in-rz)) en ef;
       }
 
-  pub done_all : {ox oz : List ℕ} {n f i : ℕ} {r : Factor} → Done lx lz rx rz ox₀ oz₀ ox oz n f i → length lx ≤ i → Fit lx → Fit lz → Fit rx → Fit rz
+  pub done_all : {ox oz : List ℕ} {n f i : ℕ} {r : Factor} → Done lx lz rx rz ox₀ oz₀ ox oz n f i → i ≡ length lx → Fit lx → Fit lz → Fit rx → Fit rz
       → r.phase.0 ≡ (n + 2 * ones f) % 4 → r.clashes ≡ n % 65536 → Product lx lz rx rz ox oz r
-  done_all {ox} {oz} {n} {f} {i} d h f₁ f₂ f₃ f₄ ee en =
-      let end : i ≡ length lx = omega (arith, d.le) in
+  done_all {ox} {oz} {n} {f} {i} d end f₁ f₂ f₃ f₄ ee en =
       record {
         x-words = all_of (length lx) lx rx ox₀ ox i refl s.in-rx s.in-ox end d.x-words ∙ packed-x lx lz rx rz s.in-lz s.in-rx s.in-rz f₁ f₃;
         z-words = all_of (length lx) lz rz oz₀ oz i s.in-lz s.in-rz s.in-oz end d.z-words ∙ packed-z lx lz rx rz s.in-lz s.in-rx s.in-rz f₂ f₄;

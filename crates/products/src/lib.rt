@@ -79,35 +79,28 @@ pub fn factor_from(n: u64, f: u64) -> Factor
     }
 }
 
-fn shorter(a: usize, b: usize) -> usize
-    ensures { result ≡ min a b }
-{
-    if a < b { a } else { b }
-}
-
 pub fn shortest(a: &[u64], b: &[u64], c: &[u64], d: &[u64]) -> usize
     ensures { result ≡ shortest₄ a.now b.now c.now d.now }
 {
-    shorter(a.len(), shorter(b.len(), shorter(c.len(), d.len())))
+    a.len().min(b.len().min(c.len().min(d.len())))
 }
 
 // The factor of the product of two rows, nothing written: the exponent, which the name has from the Rust, and the number of clashes with it. One
-// count a word and an exclusive or: such a loop is compiled for several words at once.
+// count a word and an exclusive or: such a loop is compiled for several words at once. Here and below the parts of a row go slice by slice: a field of a
+// struct gives a proof no bound on its words, which these laws ask for.
 pub fn mul_op_op_phase(lx: &[u64], lz: &[u64], rx: &[u64], rz: &[u64]) -> Factor
     ensures { FactorOf (unpack lx.now lz.now) (unpack rx.now rz.now) result }
 {
     let k = shortest(lx, lz, rx, rz);
     let mut n: u64 = 0;
     let mut f: u64 = 0;
-    let mut i = 0;
-    while i < k {
+    for i in 0..k {
         let a = lx[i];
         let b = lz[i];
         let c = rx[i];
         let d = rz[i];
         n = add_clashes(n, a, b, c, d);
         f = turn_threes(f, a, b, c, d);
-        i += 1;
     }
     factor_from(n, f)
 }
@@ -127,8 +120,7 @@ fn mul_row(lx: &[u64], lz: &[u64], rx: &[u64], rz: &[u64], ox: &mut [u64], oz: &
 {
     let mut n: u64 = 0;
     let mut f: u64 = 0;
-    let mut i = 0;
-    while i < lx.len() {
+    for i in 0..lx.len() {
         let a = lx[i];
         let b = lz[i];
         let c = rx[i];
@@ -137,7 +129,6 @@ fn mul_row(lx: &[u64], lz: &[u64], rx: &[u64], rz: &[u64], ox: &mut [u64], oz: &
         f = turn_threes(f, a, b, c, d);
         ox[i] = a ^ c;
         oz[i] = b ^ d;
-        i += 1;
     }
     factor_from(n, f)
 }
@@ -178,10 +169,7 @@ pub fn mul_op_op(
     ensures { RowProduct lx.now lz.now rx.now rz.now ox.old oz.old
         ox.new oz.new result }
 {
-    let a = shorter(ox.len(), oz.len());
-    let b = shorter(rz.len(), a);
-    let c = shorter(rx.len(), b);
-    let k = shorter(lx.len(), shorter(lz.len(), c));
+    let k = lx.len().min(lz.len().min(shortest(rx, rz, ox, oz)));
     mul_first(k, lx, lz, rx, rz, ox, oz)
 }
 
@@ -189,13 +177,7 @@ pub fn mul_op_op(
 fn lies(s: usize, w: usize, x: usize, z: usize) -> bool
     ensures { result ≡ (nat_le (s + w) x && nat_le (s + w) z) }
 {
-    if s <= x {
-        if w <= x - s {
-            let e = s + w;
-            return e <= z;
-        }
-    }
-    false
+    s.checked_add(w).is_some_and(|e| e <= x && e <= z)
 }
 
 // Whether w words from s on and from t on are the same or do not overlap.
@@ -203,10 +185,7 @@ fn apart(s: usize, t: usize, w: usize) -> bool
     requires { (s + w < 2 ^ 64) × (t + w < 2 ^ 64) }
     ensures { result ≡ (s == t || (nat_le (s + w) t || nat_le (t + w) s)) }
 {
-    let a = s == t;
-    let b = s + w <= t;
-    let c = t + w <= s;
-    a | (b | c)
+    s == t || s + w <= t || t + w <= s
 }
 
 // Words are read from t on and written from s on, w of them.
@@ -216,8 +195,7 @@ fn imul_row(x: &mut [u64], z: &mut [u64], s: usize, t: usize, w: usize) -> Facto
 {
     let mut n: u64 = 0;
     let mut f: u64 = 0;
-    let mut i = 0;
-    while i < w {
+    for i in 0..w {
         let a = s + i;
         let b = t + i;
         let lx = x[a];
@@ -228,7 +206,6 @@ fn imul_row(x: &mut [u64], z: &mut [u64], s: usize, t: usize, w: usize) -> Facto
         f = turn_threes(f, lx, lz, rx, rz);
         x[a] = lx ^ rx;
         z[a] = lz ^ rz;
-        i += 1;
     }
     factor_from(n, f)
 }
@@ -238,12 +215,8 @@ fn imul_row(x: &mut [u64], z: &mut [u64], s: usize, t: usize, w: usize) -> Facto
 pub fn imul_op_op(x: &mut [u64], z: &mut [u64], s: usize, t: usize, w: usize) -> Factor
     ensures { ProductIn w s t x.old z.old x.new z.new result }
 {
-    if lies(s, w, x.len(), z.len()) {
-        if lies(t, w, x.len(), z.len()) {
-            if apart(s, t, w) {
-                return imul_row(x, z, s, t, w);
-            }
-        }
+    if lies(s, w, x.len(), z.len()) && lies(t, w, x.len(), z.len()) && apart(s, t, w) {
+        return imul_row(x, z, s, t, w);
     }
     Factor {
         phase: ComplexSign(0),
@@ -257,14 +230,12 @@ fn act_row(lx: &[u64], lz: &[u64], st: &mut [u64]) -> ComplexSign
     ensures { Acted lx.now lz.now st.old st.new result.0 }
 {
     let mut e: u64 = 0;
-    let mut i = 0;
-    while i < lx.len() {
+    for i in 0..lx.len() {
         let a = lx[i];
         let b = lz[i];
         let r = st[i];
         e += mul_op_state_phase_u64(a, b, r);
         st[i] = a ^ r;
-        i += 1;
     }
     ComplexSign((e % 4) as u8)
 }
@@ -281,6 +252,6 @@ fn act_first(k: usize, lx: &[u64], lz: &[u64], st: &mut [u64]) -> ComplexSign
 pub fn imul_op_state(lx: &[u64], lz: &[u64], st: &mut [u64]) -> ComplexSign
     ensures { RowAction lx.now lz.now st.old st.new result.0 }
 {
-    let k = shorter(lx.len(), shorter(lz.len(), st.len()));
+    let k = lx.len().min(lz.len().min(st.len()));
     act_first(k, lx, lz, st)
 }

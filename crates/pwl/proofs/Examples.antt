@@ -4,7 +4,7 @@ use mathlib.Core.Path.{◌≡◌, refl}
 use mathlib.Core.List.{List, [], ◌∷◌}
 use Prim.Native.Nat.{ℕ}
 use Rattle.encoding.specs.Ranks.{by_rank}
-use Rattle.pwl.specs.Bytes.{le, num, les, nums}
+use Rattle.pwl.specs.Bytes.{items, les_of, le, num}
 use Rattle.pwl.specs.File.{Run, run, laid, front, body, image, shapes_by, bytes_in, read_parts, front_at, run_of, run_by, read_run, whole_len, file_fault}
 
 -- two qubits; rows Z0, X0X1, Y0; the order X0 X1 Z0 Z1; all listed; seven entries; claimed X0 of phase 1, X1 of phase 3, Z0 of phase 0
@@ -27,11 +27,11 @@ p9-bytes =
     ∷ []
 
 pub p9-image : image p9 ≡ p9-bytes
-unfolding p9 p9-bytes image laid front body les le
+unfolding p9 p9-bytes image laid front body les_of le
 p9-image = refl
 
 pub p9-read : read_run p9-bytes ≡ p9
-unfolding p9 p9-bytes front_at run_by run_of read_parts shapes_by nums num
+unfolding p9 p9-bytes front_at run_by run_of read_parts shapes_by items num
 p9-read = refl
 
 pub p9-whole : file_fault p9-bytes ≡ 0

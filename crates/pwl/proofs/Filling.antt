@@ -1,28 +1,27 @@
 -- What reading leaves in its outputs: parts that lie side by side in the file are one part of the output.
 -- Lengths follow from the front, so that room is told by its numbers alone, and lines are given in turn. Assumes nothing.
-use Rattle.pwl.proofs.Kit.{◌≡◌, refl, sym, ap, ap₂, ◌∙◌, subst, Bool, true, false, cond, ◌||◌, true≢false, List, [], ◌∷◌, ◌++◌, append_assoc, append-nil, ℕ, zero, suc, ◌+◌, ◌*◌, ◌-◌, ◌≤◌, arith, ltb, ltb-false, length, drop, take, length-append, length-drop, drop_of_length-le, drop-drop, drop_at, take_at}
+use Rattle.pwl.proofs.Kit.{◌≡◌, refl, sym, ap, ap₂, ◌∙◌, subst, Bool, true, false, cond, ◌||◌, true≢false, List, [], ◌∷◌, ◌++◌, append_assoc, append-nil, ℕ, zero, suc, ◌+◌, ◌*◌, ◌-◌, ◌<◌, ◌≤◌, arith, ltb, ltb-false, length, get_or, drop, take, length-append, length-drop, drop_of_length-le, drop-drop, drop_at, take_at, Result, Ok, Err, Refusal}
 use lib.Seq.{take_all}
-use native.Mathlib.Nat.{suc-ne-zero}
 use borrow.Rule.Slice.PartMut.{put_mid, mid_of, post_of}
 use Rattle.encoding.specs.Ranks.{by_rank}
-use Rattle.encoding.proofs.Faults.{or_else, or-first, kept}
+use Rattle.encoding.specs.Refusals.{answer_or, done_or}
+use Rattle.encoding.proofs.Faults.{or_else, first_by, first-kept, passed-by, value-is}
 use Rattle.pwl.specs.declared.Front.{Front}
 use Rattle.pwl.specs.declared.Places.{Places}
-use Rattle.pwl.specs.declared.Opened.{Opened}
-use Rattle.pwl.specs.declared.Opened.TheVariants.{Whole, Refused}
-use Rattle.pwl.specs.Bytes.{num, nums}
-use Rattle.pwl.specs.File.{Run, front_at, run_of, run_by, read_run, read_parts, shapes_by, file_lines, file_fault}
-use Rattle.pwl.specs.Calls.{run_lines, units_of, claimed_of, Outputs, outputs, falls_short, room_lines, filled, filled_by, RunRead, read_fault, Reads}
+use Rattle.pwl.specs.Bytes.{items, num, nums}
+use Rattle.pwl.specs.File.{Run, front_at, run_of, run_by, read_run, read_parts, shapes_by, whole_len, file_lines, file_fault}
+use Rattle.pwl.specs.Calls.{opened, run_lines, units_of, claimed_of, Outputs, outputs, falls_short, room_lines, filled, filled_by, RunRead, read_fault, Reads}
 use Rattle.pwl.specs.Workers.{places_by, places_of}
-use Rattle.pwl.proofs.Round.{length-nums}
-use Rattle.pwl.proofs.Opens.{refused}
+use Rattle.pwl.proofs.Round.{length-nums, num-lt, bytes_drop}
+use Rattle.pwl.proofs.Image.{good}
+use Rattle.pwl.proofs.Tests.{bytes_of}
 use Rattle.encoding.proofs.Ranks.{rank-append}
 use Rattle.pwl.proofs.Writes.{run-counted}
 
 -- ---- numbers side by side
 
 nums-append : (k a b : ℕ) (s : List ℕ) → nums k (a + b) s ≡ nums k a s ++ nums k b (drop (k * a) s)
-unfolding nums
+unfolding items
 nums-append k zero b s =
     let z : 0 + b ≡ b = omega arith in
     let y : k * 0 ≡ 0 = omega arith in
@@ -136,38 +135,61 @@ roomy t q v u x z p d e n =
 
 -- ---- the calls
 
-left_is : (k : ℕ) (h : Front) (r : Run) (o : Outputs) → (k ≡ 0 → ⊥) → RunRead k h r o o (Refused k)
-left_is k h r o n = record { answer = refused k h n; left = kept k o (filled_by r o) n }
+-- a front that was opened: n and m have two bytes each, and the file is as long as it says
+module _ (s : List ℕ) {a : Result Front Refusal} (by : a ≡ opened s) {f : Front} (ok : a ≡ Ok f) where
+  there : (file_fault s ≡ 0) × (front_at s ≡ f)
+  there = value-is (file_fault s) (front_at s) f (sym by ∙ ok)
 
-module _ (h : Front) (r : Run) (o : Outputs) {k : ℕ} (e : k ≡ by_rank (run_lines r)) where
-  in-turn : by_rank (run_lines r ++ room_lines r o) ≡ or_else k (by_rank (room_lines r o))
-  in-turn = rank-append (run_lines r) (room_lines r o) (run-counted r) ∙ ap (λ (j : ℕ). or_else j (by_rank (room_lines r o))) (sym e)
+  pub opened_front : ((i : ℕ) → get_or s i 0 < 256) → (f.n ≤ 65535) × (f.m ≤ 65535) × (length s ≡ whole_len f)
+  unfolding front_at
+  opened_front b =
+      let n = num-lt 2 (drop 5 s) (bytes_drop 5 s (bytes_of s b)) in
+      let m = num-lt 2 (drop 7 s) (bytes_drop 7 s (bytes_of s b)) in
+      let en : num 2 (drop 5 s) ≡ f.n = ap (λ (h : Front). h.n) there.1 in
+      let em : num 2 (drop 7 s) ≡ f.m = ap (λ (h : Front). h.m) there.1 in
+      (omega (arith, n, en), omega (arith, m, em), (good s there.0).sized ∙ ap whole_len there.1)
 
-  pub run-refused : (k ≡ 0 → ⊥) → RunRead (by_rank (run_lines r ++ room_lines r o)) h r o o (Refused k)
-  run-refused n = subst (λ (j : ℕ). RunRead j h r o o (Refused k)) (sym (in-turn ∙ or-first k _ n)) (left_is k h r o n)
+module _ (h : Front) (r : Run) (o : Outputs) {k : Result Unit Refusal} (e : k ≡ done_or (by_rank (run_lines r))) where
+  in-turn : by_rank (run_lines r ++ room_lines r o) ≡ or_else (by_rank (run_lines r)) (by_rank (room_lines r o))
+  in-turn = rank-append (run_lines r) (room_lines r o) (run-counted r)
 
-  module _ (z : k ≡ 0) {b : Bool} (eb : b ≡ falls_short r o) where
+  pub run-refused : {x : Refusal} → k ≡ Err x → RunRead (by_rank (run_lines r ++ room_lines r o)) h r o o (Err x)
+  run-refused {x} q =
+      subst (λ (j : ℕ). RunRead j h r o o (Err x)) (sym in-turn) (record {
+        answer = first_by (by_rank (run_lines r)) (by_rank (room_lines r o)) tt e q h;
+        left = first-kept (by_rank (run_lines r)) (by_rank (room_lines r o)) tt e q o (filled_by r o);
+      })
+
+  module _ {u : Unit} (ok : k ≡ Ok u) {b : Bool} (eb : b ≡ falls_short r o) where
     by-room : by_rank (run_lines r ++ room_lines r o) ≡ cond b 14 0
     unfolding by_rank
-    by-room = in-turn ∙ ap (λ (j : ℕ). or_else j (by_rank (room_lines r o))) z ∙ ap (λ (c : Bool). cond c 14 0) (sym eb)
+    by-room =
+        in-turn ∙ ap (λ (j : ℕ). or_else j (by_rank (room_lines r o))) (passed-by (by_rank (run_lines r)) tt (sym ok ∙ e)) ∙ ap (λ (c : Bool). cond c 14 0) (sym eb)
 
-    pub run_short : b ≡ true → RunRead (by_rank (run_lines r ++ room_lines r o)) h r o o (Refused 14)
-    run_short g = subst (λ (j : ℕ). RunRead j h r o o (Refused 14)) (sym (by-room ∙ ap (λ (c : Bool). cond c 14 0) g)) (left_is 14 h r o (λ y. suc-ne-zero 13 y))
+    pub run_short : b ≡ true → RunRead (by_rank (run_lines r ++ room_lines r o)) h r o o (Err (record { 0 = 14 }))
+    unfolding answer_or
+    run_short g =
+        subst (λ (j : ℕ). RunRead j h r o o (Err (record { 0 = 14 }))) (sym (by-room ∙ ap (λ (c : Bool). cond c 14 0) g)) (record { answer = refl; left = refl })
 
-    pub run-filled : b ≡ false → {o' : Outputs} → o' ≡ filled_by r o → RunRead (by_rank (run_lines r ++ room_lines r o)) h r o o' (Whole h)
+    pub run-filled : b ≡ false → {o' : Outputs} → o' ≡ filled_by r o → RunRead (by_rank (run_lines r ++ room_lines r o)) h r o o' (Ok h)
+    unfolding answer_or
     run-filled g {o'} w =
-        subst (λ (j : ℕ). RunRead j h r o o' (Whole h)) (sym (by-room ∙ ap (λ (c : Bool). cond c 14 0) g)) (record { answer = refl; left = w })
+        subst (λ (j : ℕ). RunRead j h r o o' (Ok h)) (sym (by-room ∙ ap (λ (c : Bool). cond c 14 0) g)) (record { answer = refl; left = w })
 
-module _ (s : List ℕ) (o : Outputs) {k : ℕ} (e : k ≡ file_fault s) where
-  first-of-file : read_fault s o ≡ or_else k (by_rank (run_lines (read_run s) ++ room_lines (read_run s) o))
-  first-of-file =
-      rank-append (file_lines s) (run_lines (read_run s) ++ room_lines (read_run s) o) refl
-      ∙ ap (λ (j : ℕ). or_else j (by_rank (run_lines (read_run s) ++ room_lines (read_run s) o))) (sym e)
+module _ (s : List ℕ) (o : Outputs) {a : Result Front Refusal} (by : a ≡ opened s) where
+  first-of-file : read_fault s o ≡ or_else (file_fault s) (by_rank (run_lines (read_run s) ++ room_lines (read_run s) o))
+  first-of-file = rank-append (file_lines s) (run_lines (read_run s) ++ room_lines (read_run s) o) refl
 
-  pub read-refused : (k ≡ 0 → ⊥) → Reads s o o (Refused k)
-  read-refused n = subst (λ (j : ℕ). RunRead j (front_at s) (read_run s) o o (Refused k)) (sym (first-of-file ∙ or-first k _ n)) (left_is k (front_at s) (read_run s) o n)
+  pub read_refused : {x : Refusal} → a ≡ Err x → Reads s o o (Err x)
+  read_refused {x} q =
+      let g = by_rank (run_lines (read_run s) ++ room_lines (read_run s) o) in
+      subst (λ (j : ℕ). RunRead j (front_at s) (read_run s) o o (Err x)) (sym first-of-file) (record {
+        answer = first_by (file_fault s) g (front_at s) by q (front_at s);
+        left = first-kept (file_fault s) g (front_at s) by q o (filled_by (read_run s) o);
+      })
 
-  pub read_done : k ≡ 0 → {f : Front} → f ≡ front_at s → {o' : Outputs} {a : Opened} → RunRead (by_rank (run_lines (run_by f s) ++ room_lines (run_by f s) o)) f (run_by f s) o o' a → Reads s o o' a
-  read_done z {f} g {o'} {a} w =
-      subst (λ (j : ℕ). RunRead j (front_at s) (read_run s) o o' a) (sym (first-of-file ∙ ap (λ (j : ℕ). or_else j (by_rank (run_lines (read_run s) ++ room_lines (read_run s) o))) z))
-      (subst (λ (h : Front). RunRead (by_rank (run_lines (run_by h s) ++ room_lines (run_by h s) o)) h (run_by h s) o o' a) g w)
+  pub read_done : {f : Front} → a ≡ Ok f → {o' : Outputs} {r : Result Front Refusal} → RunRead (by_rank (run_lines (run_by f s) ++ room_lines (run_by f s) o)) f (run_by f s) o o' r → Reads s o o' r
+  read_done {f} q {o'} {r} w =
+      let t = value-is (file_fault s) (front_at s) f (sym by ∙ q) in
+      subst (λ (j : ℕ). RunRead j (front_at s) (read_run s) o o' r) (sym (first-of-file ∙ ap (λ (j : ℕ). or_else j (by_rank (run_lines (read_run s) ++ room_lines (read_run s) o))) t.0))
+      (subst (λ (h : Front). RunRead (by_rank (run_lines (run_by h s) ++ room_lines (run_by h s) o)) h (run_by h s) o o' r) (sym t.1) w)

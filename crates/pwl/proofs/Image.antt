@@ -2,7 +2,7 @@
 -- three parts of known shapes, which tell the shapes of the rest. Assumes nothing.
 use Rattle.pwl.proofs.Kit.{◌≡◌, refl, sym, ap, ap₂, ◌∙◌, subst, Bool, true, false, cond, not, ◌||◌, true≢false, List, [], ◌∷◌, ◌++◌, append-nil, ℕ, ◌+◌, ◌*◌, ◌/◌, ◌≤◌, arith, eqb, ltb, ltb-false, eqb-true, not-false, le-ltb, eq-eqb, length-append, length, get_or, drop, drop_of_length-le, drop-drop, drop_at}
 use Rattle.encoding.specs.Ranks.{by_rank}
-use Rattle.pwl.specs.Bytes.{num, nums, Bytes, Below}
+use Rattle.pwl.specs.Bytes.{items, num, Bytes, Below}
 use Rattle.pwl.specs.declared.Front.{Front}
 use Rattle.pwl.specs.File.{Run, Part, laid, mark, version, front_of, front_for, front, front_bytes, body, image, Shape, shape, shapes_by, shapes, bytes_in, read_parts, front_at, numbers_at, run_of, run_by, read_run, bad_mark, bad_version, whole_len, file_fault, PartsFit, shapes_of, Fit}
 use Rattle.pwl.proofs.Round.{length-nums, num-lt, bytes_drop}
@@ -19,8 +19,8 @@ pub record Fronted (f : Front) (s : List ℕ) : Type 0 where
 hop : (k i j : ℕ) (s : List ℕ) → num k (drop i (drop j s)) ≡ num k (drop (j + i) s)
 hop k i j s = ap (num k) (drop-drop i j s)
 
-pub front-is : (n m a b c k : ℕ) (f : Front) → n ≡ f.n → m ≡ f.m → a ≡ f.order → b ≡ f.listed → c ≡ f.extra → k ≡ f.entries → front_of n m a b c k ≡ f
-front-is n m a b c k f e1 e2 e3 e4 e5 e6 = rw (e1, e2, e3, e4, e5, e6)
+pub front_is : (n m a b c k : ℕ) (f : Front) → n ≡ f.n → m ≡ f.m → a ≡ f.order → b ≡ f.listed → c ≡ f.extra → k ≡ f.entries → front_of n m a b c k ≡ f
+front_is n m a b c k f e1 e2 e3 e4 e5 e6 = rw (e1, e2, e3, e4, e5, e6)
 
 pub front_length : (f : Front) → length (laid (front f)) ≡ front_bytes
 unfolding front shapes_of bytes_in
@@ -31,7 +31,7 @@ item : (j i : ℕ) {ps qs : List Part} → ps ≡ qs → get_or (numbers_at ps j
 item j i e = ap (λ (ps : List Part). get_or (numbers_at ps j) i 0) e
 
 pub fronted : (f : Front) (s t : List ℕ) → PartsFit (front f) → s ≡ laid (front f) ++ t → Fronted f s
-unfolding front read_parts shapes_of nums front_at
+unfolding front read_parts shapes_of items front_at
 fronted f s t fit e =
     let r = read-laid (front f) 0 s t fit e in
     let d7 : drop 7 s ≡ drop 2 (drop 2 (drop 3 s)) = sym (ap (drop 2) (drop-drop 2 3 s) ∙ drop-drop 2 5 s) in
@@ -41,7 +41,7 @@ fronted f s t fit e =
       marked = item 0 0 r;
       of-version = item 1 0 r;
       numbers =
-          front-is _ _ _ _ _ _ f (sym (hop 2 2 3 s) ∙ item 1 1 r) (ap (num 2) d7 ∙ item 1 2 r)
+          front_is _ _ _ _ _ _ f (sym (hop 2 2 3 s) ∙ item 1 1 r) (ap (num 2) d7 ∙ item 1 2 r)
           (item 2 0 r) (sym (hop 8 8 9 s) ∙ item 2 1 r) (ap (num 8) d25 ∙ item 2 2 r) (ap (num 8) d33 ∙ item 2 3 r);
     }
 
@@ -135,7 +135,7 @@ abbrev front_shapes : List Shape
 front_shapes = shape 3 1 ∷ shape 2 3 ∷ shape 8 4 ∷ []
 
 front_read : (s : List ℕ) → Good s → front (front_at s) ≡ read_parts front_shapes 0 s
-unfolding front read_parts nums front_at
+unfolding front read_parts items front_at
 front_read s g =
     let d7 : drop 7 s ≡ drop 2 (drop 2 (drop 3 s)) = sym (ap (drop 2) (drop-drop 2 3 s) ∙ drop-drop 2 5 s) in
     let d25 : drop 25 s ≡ drop 8 (drop 8 (drop 9 s)) = sym (ap (drop 8) (drop-drop 8 9 s) ∙ drop-drop 8 17 s) in
@@ -160,7 +160,7 @@ unfolding run_by run_of read_parts shapes_by
 counted f s =
     let units : length (run_by f s).log ≡ 2 * f.entries = length-nums 2 (2 * f.entries) _ in
     let half : length (run_by f s).log / 2 ≡ f.entries = omega (arith, units) in
-    front-is _ _ _ _ _ _ f refl refl (length-nums 2 f.order _) (length-nums 2 f.listed _) (length-nums 2 f.extra _) half
+    front_is _ _ _ _ _ _ f refl refl (length-nums 2 f.order _) (length-nums 2 f.listed _) (length-nums 2 f.extra _) half
 
 -- Every file with which nothing is wrong is the image of what is read from it: no other file is read as this run.
 pub image-read : (s : List ℕ) → Bytes s → file_fault s ≡ 0 → image (read_run s) ≡ s

@@ -1,7 +1,7 @@
 -- Numbers and their bytes: what was laid is read back, whatever follows it, and what was read is laid again as it stood. By the bytes of one number, the
 -- lowest first, and then number by number. Assumes nothing.
 use Rattle.pwl.proofs.Kit.{◌≡◌, refl, sym, ap, ◌∙◌, List, [], ◌∷◌, ◌++◌, append_assoc, ℕ, zero, suc, ◌+◌, ◌*◌, ◌/◌, ◌%◌, ◌^◌, ◌<◌, ◌≤◌, arith, length, get_or, drop, length-append, length-drop, drop-drop, drop_at}
-use Rattle.pwl.specs.Bytes.{le, num, les, nums, Bytes, Below}
+use Rattle.pwl.specs.Bytes.{items, les_of, le, num, les, nums, Bytes, Below}
 
 pub length-le : (k v : ℕ) → length (le k v) ≡ k
 unfolding le
@@ -9,12 +9,12 @@ length-le zero v = refl
 length-le (suc k) v = ap suc (length-le k (v / 256))
 
 pub length-les : (k : ℕ) (vs : List ℕ) → length (les k vs) ≡ k * length vs
-unfolding les
+unfolding les_of
 length-les k [] = omega arith
 length-les k (v ∷ vs) = length-append (le k v) (les k vs) ∙ (omega (arith, length-le k v, length-les k vs))
 
 pub length-nums : (k c : ℕ) (s : List ℕ) → length (nums k c s) ≡ c
-unfolding nums
+unfolding items
 length-nums k zero s = refl
 length-nums k (suc c) s = ap suc (length-nums k c (drop k s))
 
@@ -28,7 +28,7 @@ num-le (suc k) v s h =
     omega (arith, e)
 
 pub nums-les : (k : ℕ) (vs s : List ℕ) → Below (256 ^ k) vs → nums k (length vs) (les k vs ++ s) ≡ vs
-unfolding nums les Below
+unfolding items les_of Below
 nums-les k [] s h = refl
 nums-les k (v ∷ vs) s h =
     let a : (le k v ++ les k vs) ++ s ≡ le k v ++ (les k vs ++ s) = append_assoc (le k v) (les k vs) s in
@@ -56,7 +56,7 @@ bytes_drop (suc k) [] b = b
 bytes_drop (suc k) (x ∷ s) b = bytes_drop k s b.1
 
 pub les-nums : (k c : ℕ) (s : List ℕ) → Bytes s → k * c ≤ length s → les k (nums k c s) ++ drop (k * c) s ≡ s
-unfolding nums les
+unfolding items les_of
 les-nums k zero s b h =
     let z : k * 0 ≡ 0 = omega arith in
     ap (λ (j : ℕ). drop j s) z
@@ -82,6 +82,6 @@ num-lt zero s b = omega arith
 num-lt (suc k) s b = omega (arith, head-lt s b, num-lt k (drop 1 s) (bytes_drop 1 s b))
 
 pub nums-lt : (k c : ℕ) (s : List ℕ) → Bytes s → Below (256 ^ k) (nums k c s)
-unfolding nums Below
+unfolding items Below
 nums-lt k zero s b = tt
 nums-lt k (suc c) s b = (num-lt k s b, nums-lt k c (drop k s) (bytes_drop k s b))

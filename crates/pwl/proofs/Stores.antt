@@ -4,7 +4,7 @@ use Rattle.pwl.proofs.Kit.{◌≡◌, refl, sym, ap, ap₂, ◌∙◌, List, [],
 use Rattle.text.specs.Readers.{over}
 use Rattle.text.proofs.Writing.{over_none}
 use Rattle.text.proofs.Adding.{length_over, over-append, over-one}
-use Rattle.pwl.specs.Bytes.{le, les}
+use Rattle.pwl.specs.Bytes.{les_of, le, les}
 use Rattle.pwl.specs.declared.Front.{Front}
 use Rattle.pwl.specs.File.{Run, Part, part, laid, front_for, body, image, mark, version, front, front_bytes, bytes_in, shapes_of}
 use Rattle.pwl.specs.Workers.{parts, task_parts, claim_parts, Put, Imaged}
@@ -25,31 +25,28 @@ byte_next (suc left) r p b o l h e =
     rw z
     (ap (λ (c : ℕ). over (le left (r / 256)) (p + 1) (set o p c)) e ∙ sym (over-cons (r % 256) (le left (r / 256)) p o h))
 
-pub byte-end : (left r p : ℕ) (o : List ℕ) → left ≤ 0 → over (le left r) p o ≡ o
+pub byte_end : (left r p : ℕ) (o : List ℕ) → left ≤ 0 → over (le left r) p o ≡ o
 unfolding le
-byte-end zero r p o h = over_none p o
-byte-end (suc left) r p o h = absurd (omega arith)
+byte_end zero r p o h = over_none p o
+byte_end (suc left) r p o h = absurd (omega arith)
 
 -- ---- the numbers of a list, k bytes each
 
-module _ (k : ℕ) (list : List ℕ) where
-  pub number-next : (i p : ℕ) (o o' : List ℕ) → i < length list → p + k ≤ length o → o' ≡ over (le k (get_or list i 0)) p o
-      → over (les k (drop (i + 1) list)) (p + k) o' ≡ over (les k (drop i list)) p o
-  unfolding les
-  number-next i p o o' h g e =
-      let v = get_or list i 0 in
-      let t = les k (drop (suc i) list) in
+module _ {A : Type 0} (k : ℕ) (value : A → ℕ) (d : A) (list : List A) where
+  pub number_next : (i p : ℕ) (o o' : List ℕ) → i < length list → p + k ≤ length o → o' ≡ over (le k (value (get_or list i d))) p o
+      → over (les_of k value (drop (i + 1) list)) (p + k) o' ≡ over (les_of k value (drop i list)) p o
+  unfolding les_of
+  number_next i p o o' h g e =
+      let v = value (get_or list i d) in
+      let t = les_of k value (drop (suc i) list) in
       let l = length-le k v in
       let there : p + length (le k v) ≤ length o = omega (arith, l) in
       rw (add-one i) (ap (over t (p + k)) e ∙ ap (λ (j : ℕ). over t (p + j) (over (le k v) p o)) (sym l) ∙ sym (over-append (le k v) p o there t)
-      ∙ ap (λ (u : List ℕ). over (les k u) p o) (sym (drop-cons list i 0 h)))
+      ∙ ap (λ (u : List A). over (les_of k value u) p o) (sym (drop-cons list i d h)))
 
-  pub number-end : (i p : ℕ) (o : List ℕ) → length list ≤ i → over (les k (drop i list)) p o ≡ o
-  unfolding les
-  number-end i p o h = ap (λ (u : List ℕ). over (les k u) p o) (drop_of_length-le list h) ∙ over_none p o
-
-pub number_same : (k v p : ℕ) (o o' : List ℕ) → p + k ≤ length o → o' ≡ over (le k v) p o → length o' ≡ length o
-number_same k v p o o' h e = ap length e ∙ length_over (le k v) p o (omega (arith, length-le k v))
+pub number_end : {A : Type 0} (k : ℕ) (value : A → ℕ) (list : List A) (i p : ℕ) (o : List ℕ) → length list ≤ i → over (les_of k value (drop i list)) p o ≡ o
+unfolding les_of
+number_end {A} k value list i p o h = ap (λ (u : List A). over (les_of k value u) p o) (drop_of_length-le list h) ∙ over_none p o
 
 -- ---- parts
 
@@ -73,18 +70,18 @@ parts_then ps qs at next o n h e f =
     f ∙ ap₂ (λ (j : ℕ) (s : List ℕ). over (laid qs) j s) behind e
     ∙ sym (over-append (laid ps) at o there (laid qs)) ∙ ap (λ (w : List ℕ). over w at o) (sym (laid-append ps qs))
 
-pub three-parts : (k : ℕ) (a b c : List ℕ) (at j i : ℕ) (o : List ℕ) {p q r : List ℕ} → j ≡ at + k * length a → i ≡ j + k * length b → i ≤ length o
+pub three_parts : (k : ℕ) (a b c : List ℕ) (at j i : ℕ) (o : List ℕ) {p q r : List ℕ} → j ≡ at + k * length a → i ≡ j + k * length b → i ≤ length o
     → p ≡ over (les k a) at o → q ≡ over (les k b) j p → r ≡ over (les k c) i q → r ≡ over (laid (parts k a b c)) at o
 unfolding bytes_in shapes_of
-three-parts k a b c at j i o ej ei h ep eq er =
+three_parts k a b c at j i o ej ei h ep eq er =
     parts_then (part k a ∷ part k b ∷ []) (part k c ∷ []) at i o (omega (arith, ej, ei)) h
     (parts_then (part k a ∷ []) (part k b ∷ []) at j o (omega (arith, ej)) (omega (arith, ei, h)) (ep ∙ one-part k a at _) (eq ∙ one-part k b j _))
     (er ∙ one-part k c i _)
 
-pub front-parts : (f : Front) (j : ℕ) (o : List ℕ) {p q r : List ℕ} → front_bytes ≤ length o → j ≡ 9
+pub front_parts : (f : Front) (j : ℕ) (o : List ℕ) {p q r : List ℕ} → front_bytes ≤ length o → j ≡ 9
     → p ≡ over (le 3 mark) 0 o → q ≡ over (les 2 (version ∷ f.n ∷ f.m ∷ [])) 3 p → r ≡ over (les 8 (f.order ∷ f.listed ∷ f.extra ∷ f.entries ∷ [])) j q → r ≡ over (laid (front f)) 0 o
-unfolding bytes_in shapes_of front les
-front-parts f j o {p} {q} h ej ep eq er =
+unfolding bytes_in shapes_of front les_of
+front_parts f j o {p} {q} h ej ep eq er =
     parts_then (part 3 (mark ∷ []) ∷ part 2 (version ∷ f.n ∷ f.m ∷ []) ∷ []) (part 8 (f.order ∷ f.listed ∷ f.extra ∷ f.entries ∷ []) ∷ []) 0 j o ej (omega arith)
     (parts_then (part 3 (mark ∷ []) ∷ []) (part 2 (version ∷ f.n ∷ f.m ∷ []) ∷ []) 0 3 o refl (omega arith)
     (ep ∙ ap (λ (l : List ℕ). over l 0 o) (sym (append-nil (le 3 mark))) ∙ one-part 3 (mark ∷ []) 0 o) (eq ∙ one-part 2 (version ∷ f.n ∷ f.m ∷ []) 3 p))
@@ -98,14 +95,14 @@ unfolding bytes_in shapes_of
 bytes-append [] qs = omega arith
 bytes-append (p ∷ ps) qs = omega (arith, bytes-append ps qs)
 
-pub three-put : (k : ℕ) (a b c : List ℕ) (at : ℕ) (o : List ℕ) {p : List ℕ} {next : ℕ} → next ≡ at + (k * length a + k * length b + k * length c)
+pub three_put : (k : ℕ) (a b c : List ℕ) (at : ℕ) (o : List ℕ) {p : List ℕ} {next : ℕ} → next ≡ at + (k * length a + k * length b + k * length c)
     → p ≡ over (laid (parts k a b c)) at o → Put (parts k a b c) at o p next
 unfolding bytes_in shapes_of
-three-put k a b c at o n e = record { place = omega (arith, n); bytes = e }
+three_put k a b c at o n e = record { place = omega (arith, n); bytes = e }
 
-pub one-put : (k : ℕ) (a : List ℕ) (at : ℕ) (o : List ℕ) {p : List ℕ} {next : ℕ} → next ≡ at + k * length a → p ≡ over (les k a) at o → Put (part k a ∷ []) at o p next
+pub one_put : (k : ℕ) (a : List ℕ) (at : ℕ) (o : List ℕ) {p : List ℕ} {next : ℕ} → next ≡ at + k * length a → p ≡ over (les k a) at o → Put (part k a ∷ []) at o p next
 unfolding bytes_in shapes_of
-one-put k a at o n e = record { place = omega (arith, n); bytes = e ∙ one-part k a at o }
+one_put k a at o n e = record { place = omega (arith, n); bytes = e ∙ one-part k a at o }
 
 pub put_then : (ps qs : List Part) (at : ℕ) (o : List ℕ) {p q : List ℕ} {next end : ℕ} → at + bytes_in (shapes_of (ps ++ qs)) ≤ length o → Put ps at o p next → Put qs next p q end → Put (ps ++ qs) at o q end
 put_then ps qs at o {p} {q} {next} {end} h a b =

@@ -1,19 +1,18 @@
 -- What writing a file leaves: a run that the table passed is as long as its front says, so that the front's length is that of the image.
 -- So 14 of the output is 19 of its length, by the one test of lengths. Assumes nothing.
-use Rattle.pwl.proofs.Kit.{◌≡◌, refl, sym, ap, ◌∙◌, subst, Bool, true, false, cond, List, [], ◌∷◌, ◌++◌, ℕ, zero, suc, ◌+◌, ◌*◌, ◌/◌, ◌%◌, ◌≤◌, arith, ltb, ltb-true, ltb-false, lt-ltb, le-ltb, length, drop}
+use Rattle.pwl.proofs.Kit.{◌≡◌, refl, sym, ap, ◌∙◌, subst, Bool, true, false, cond, List, [], ◌∷◌, ◌++◌, ℕ, ◌+◌, ◌*◌, ◌/◌, ◌%◌, ◌≤◌, arith, ltb, ltb-true, ltb-false, lt-ltb, le-ltb, length, drop, Result, Ok, Err, Refusal}
 use borrow.Author.Tests.{eqb-false}
+use Rattle.std.specs.Result.{result_eq}
 use Rattle.encoding.specs.Words.{odd}
-use Rattle.encoding.specs.Refusals.{left_or}
+use Rattle.encoding.specs.Refusals.{answer_or, done_or, left_or}
 use Rattle.encoding.specs.Ranks.{by_rank, place_in, placed, joined}
-use Rattle.encoding.proofs.Faults.{or_else, or-first, kept}
+use Rattle.encoding.proofs.Faults.{or_else, first_by, first-kept, passed-by}
 use Rattle.encoding.proofs.Ranks.{counted, rank-append}
 use Rattle.encoding.proofs.Exponents.{laid-long}
 use Rattle.replay.specs.Check.{Passed}
 use Rattle.replay.proofs.Faults.{check-none}
-use Rattle.pwl.specs.declared.Written.{Written}
-use Rattle.pwl.specs.declared.Written.TheVariants as written
 use Rattle.pwl.specs.File.{Run, front_for, body, image, Shape, shape, shapes_by, shapes_of, whole_len, length_lines}
-use Rattle.pwl.specs.Calls.{task_of, claim_of, run_lines, short_line, write_fault, length_or, ImageWritten, Writes}
+use Rattle.pwl.specs.Calls.{task_of, claim_of, run_lines, short_line, write_fault, ImageWritten, Writes}
 use Rattle.pwl.specs.Workers.{Shaped, Imaged}
 use Rattle.pwl.proofs.Image.{whole_length}
 
@@ -52,54 +51,63 @@ shaped r z p =
 
 -- ---- the call
 
--- 19 of the length is 14 of the output
-by_length : (b c : Bool) {k : ℕ} → k ≡ cond b 19 (cond c 20 0) → (k ≡ 19 → b ≡ true) × ((k ≡ 19 → ⊥) → b ≡ false)
-by_length true c e = ((λ _. refl), (λ n. absurd (n e)))
-by_length false true e = ((λ g. absurd (omega (arith, e, g))), (λ _. refl))
-by_length false false e = ((λ g. absurd (omega (arith, e, g))), (λ _. refl))
+-- a length is short exactly when its answer is 19
+pub is_short : (E : Unit → Unit → Bool) (F : Refusal → Refusal → Bool) → F (record { 0 = 19 }) (record { 0 = 19 }) ≡ true → F (record { 0 = 20 }) (record { 0 = 19 }) ≡ false
+    → (l t : ℕ) {a : Result Unit Refusal} → a ≡ done_or (by_rank (length_lines l t)) → result_eq E F a (Err (record { 0 = 19 })) ≡ ltb l t
+unfolding by_rank answer_or
+is_short E F same other l t e = ap (λ (a : Result Unit Refusal). result_eq E F a (Err (record { 0 = 19 }))) e ∙ go (ltb l t) (ltb t l)
+  where
+    go : (b c : Bool) → result_eq E F (done_or (cond b 19 (cond c 20 0))) (Err (record { 0 = 19 })) ≡ b
+    go true c = same
+    go false true = other
+    go false false = refl
 
-module _ (r : Run) (out : List ℕ) (s : Shaped r) {k : ℕ} (e : k ≡ by_rank (length_lines (length out) (whole_len (front_for r)))) where
-  pub run_short : k ≡ 19 → ImageWritten (by_rank (short_line r out ∷ [])) r out out (written.Refused 14)
-  unfolding by_rank
+module _ (r : Run) (out : List ℕ) (s : Shaped r) where
+  pub run_short : ltb (length out) (whole_len (front_for r)) ≡ true → ImageWritten (by_rank (short_line r out ∷ [])) r out out (Err (record { 0 = 14 }))
+  unfolding by_rank answer_or
   run_short g =
-      let h = ltb-true (length out) (whole_len (front_for r)) ((by_length (ltb (length out) (whole_len (front_for r))) (ltb (whole_len (front_for r)) (length out)) e).0 g) in
+      let h = ltb-true (length out) (whole_len (front_for r)) g in
       let z : 14 ≡ by_rank (short_line r out ∷ []) = simp (lt-ltb (length out) (length (image r)) (omega (arith, h, whole_length r s.long))) in
-      record { answer = ap (λ (f : ℕ). length_or f (length (image r))) z; bytes = ap (λ (f : ℕ). left_or f out (image r ++ drop (length (image r)) out)) z }
+      record { answer = ap (λ (f : ℕ). answer_or f (length (image r))) z; bytes = ap (λ (f : ℕ). left_or f out (image r ++ drop (length (image r)) out)) z }
 
-  pub run_room : (k ≡ 19 → ⊥) → length (image r) ≤ length out
-  unfolding by_rank
-  run_room g =
-      let h = ltb-false (length out) (whole_len (front_for r)) ((by_length (ltb (length out) (whole_len (front_for r))) (ltb (whole_len (front_for r)) (length out)) e).1 g) in
-      omega (arith, h, whole_length r s.long)
+  module _ (g : ltb (length out) (whole_len (front_for r)) ≡ false) where
+    pub run_room : length (image r) ≤ length out
+    run_room =
+        let h = ltb-false (length out) (whole_len (front_for r)) g in
+        omega (arith, h, whole_length r s.long)
 
-  pub run-whole : (k ≡ 19 → ⊥) → {p : List ℕ} {n : ℕ} → Imaged r out p n → ImageWritten (by_rank (short_line r out ∷ [])) r out p (written.Length n)
-  unfolding by_rank
-  run-whole g {p} {n} w =
-      let z : 0 ≡ by_rank (short_line r out ∷ []) = simp (le-ltb (length out) (length (image r)) (run_room g)) in
-      let j : 0 + length (image r) ≡ length (image r) = omega arith in
-      record {
-        answer = ap written.Length w.place ∙ ap (λ (f : ℕ). length_or f (length (image r))) z;
-        bytes =
-            w.bytes ∙ ap (λ (j : ℕ). image r ++ drop j out) j
-            ∙ ap (λ (f : ℕ). left_or f out (image r ++ drop (length (image r)) out)) z;
-      }
+    pub run_whole : {p : List ℕ} {n : ℕ} → Imaged r out p n → ImageWritten (by_rank (short_line r out ∷ [])) r out p (Ok n)
+    unfolding by_rank answer_or
+    run_whole {p} {n} w =
+        let z : 0 ≡ by_rank (short_line r out ∷ []) = simp (le-ltb (length out) (length (image r)) run_room) in
+        let j : 0 + length (image r) ≡ length (image r) = omega arith in
+        record {
+          answer = ap (λ (k : ℕ). Ok k) w.place ∙ ap (λ (f : ℕ). answer_or f (length (image r))) z;
+          bytes =
+              w.bytes ∙ ap (λ (j : ℕ). image r ++ drop j out) j
+              ∙ ap (λ (f : ℕ). left_or f out (image r ++ drop (length (image r)) out)) z;
+        }
 
-module _ (r : Run) (out : List ℕ) {f : ℕ} (e : f ≡ by_rank (run_lines r)) where
-  in-turn : write_fault r out ≡ or_else f (by_rank (short_line r out ∷ []))
-  in-turn = rank-append (run_lines r) (short_line r out ∷ []) (run-counted r) ∙ ap (λ (k : ℕ). or_else k (by_rank (short_line r out ∷ []))) (sym e)
+module _ (r : Run) (out : List ℕ) {a : Result Unit Refusal} (e : a ≡ done_or (by_rank (run_lines r))) where
+  in-turn : write_fault r out ≡ or_else (by_rank (run_lines r)) (by_rank (short_line r out ∷ []))
+  in-turn = rank-append (run_lines r) (short_line r out ∷ []) (run-counted r)
 
-  pub write-refused : (f ≡ 0 → ⊥) → Writes r out out (written.Refused f)
-  write-refused n =
-      let z : f ≡ write_fault r out = sym (in-turn ∙ or-first f _ n) in
-      record {
-        answer = go f n ∙ ap (λ (k : ℕ). length_or k (length (image r))) z;
-        bytes = kept f out (image r ++ drop (length (image r)) out) n ∙ ap (λ (k : ℕ). left_or k out (image r ++ drop (length (image r)) out)) z;
-      }
-    where
-      go : (k : ℕ) → (k ≡ 0 → ⊥) → written.Refused k ≡ length_or k (length (image r))
-      go zero h = absurd (h refl)
-      go (suc k) h = refl
+  pub write_refused : {x : Refusal} → a ≡ Err x → Writes r out out (Err x)
+  write_refused {x} h =
+      let f = by_rank (run_lines r) in
+      let g = by_rank (short_line r out ∷ []) in
+      subst (λ (k : ℕ). ImageWritten k r out out (Err x)) (sym in-turn) (record {
+        answer = first_by f g tt e h (length (image r));
+        bytes = first-kept f g tt e h out (image r ++ drop (length (image r)) out);
+      })
 
-  pub write_done : f ≡ 0 → {p : List ℕ} {a : Written} → ImageWritten (by_rank (short_line r out ∷ [])) r out p a → Writes r out p a
-  write_done z {p} {a} w =
-      subst (λ (k : ℕ). ImageWritten k r out p a) (sym (in-turn ∙ ap (λ (k : ℕ). or_else k (by_rank (short_line r out ∷ []))) z)) w
+  module _ {u : Unit} (ok : a ≡ Ok u) where
+    none : by_rank (run_lines r) ≡ 0
+    none = passed-by (by_rank (run_lines r)) tt (sym ok ∙ e)
+
+    pub write_shaped : Passed (task_of r) (claim_of r).rows → Shaped r
+    write_shaped p = shaped r none p
+
+    pub write_done : {p : List ℕ} {b : Result ℕ Refusal} → ImageWritten (by_rank (short_line r out ∷ [])) r out p b → Writes r out p b
+    write_done {p} {b} w =
+        subst (λ (k : ℕ). ImageWritten k r out p b) (sym (in-turn ∙ ap (λ (k : ℕ). or_else k (by_rank (short_line r out ∷ []))) none)) w

@@ -1,24 +1,17 @@
 -- docs/PWL.md, "The calls" and "Refusals": what the calls answer and leave; a refusal leaves every output as it was. Assumes nothing.
-use Rattle.std.specs.Prelude.{◌≡◌, Bool, ◌||◌, List, [], ◌∷◌, ◌++◌, ℕ, zero, suc, ltb, length, drop}
+use Rattle.std.specs.Prelude.{◌≡◌, Bool, ◌||◌, List, [], ◌∷◌, ◌++◌, ℕ, ltb, length, drop, Result}
 use Rattle.encoding.specs.Set.{mem_of}
-use Rattle.encoding.specs.Refusals.{left_or}
+use Rattle.encoding.specs.Refusals.{answer_or, left_or}
+use Rattle.encoding.specs.declared.Refusal.{Refusal}
 use Rattle.encoding.specs.Ranks.{TableLine, line, by_rank}
 use Rattle.replay.specs.Check.{Task, task, Claim, claim, check_lines}
 use Rattle.pwl.specs.File.{Run, image, front_at, read_run, file_lines, file_fault}
 use Rattle.pwl.specs.declared.Front.{Front}
-use Rattle.pwl.specs.declared.Opened.{Opened}
-use Rattle.pwl.specs.declared.Opened.TheVariants.{Whole, Refused}
-use Rattle.pwl.specs.declared.Written.{Written}
-use Rattle.pwl.specs.declared.Written.TheVariants as written
 
 -- ---- open: the front, or the number of a refusal
 
-abbrev pub whole_or : ℕ → Front → Opened
-whole_or zero f = Whole f
-whole_or (suc k) f = Refused (suc k)
-
-abbrev pub opened : List ℕ → Opened
-opened s = whole_or (file_fault s) (front_at s)
+abbrev pub opened : List ℕ → Result Front Refusal
+opened s = answer_or (file_fault s) (front_at s)
 
 -- ---- a run as the checker takes it
 
@@ -41,16 +34,12 @@ short_line r out = line 14 (ltb (length out) (length (image r)))
 abbrev pub write_fault : Run → List ℕ → ℕ
 write_fault r out = by_rank (run_lines r ++ (short_line r out ∷ []))
 
-abbrev pub length_or : ℕ → ℕ → Written
-length_or zero k = written.Length k
-length_or (suc f) k = written.Refused (suc f)
-
 -- the answer a and what the output holds, where the first line that fits has the number f
-pub record ImageWritten (f : ℕ) (r : Run) (out out' : List ℕ) (a : Written) : Type 0 where
-  pub answer : a ≡ length_or f (length (image r))
+pub record ImageWritten (f : ℕ) (r : Run) (out out' : List ℕ) (a : Result ℕ Refusal) : Type 0 where
+  pub answer : a ≡ answer_or f (length (image r))
   pub bytes : out' ≡ left_or f out (image r ++ drop (length (image r)) out)
 
-abbrev pub Writes : Run → List ℕ → List ℕ → Written → Type 0
+abbrev pub Writes : Run → List ℕ → List ℕ → Result ℕ Refusal → Type 0
 Writes r out out' a = ImageWritten (write_fault r out) r out out' a
 
 -- ---- read: a file into five outputs
@@ -90,13 +79,13 @@ abbrev pub filled_by : Run → Outputs → Outputs
 filled_by r o = outputs (filled (units_of r) o.units) (filled r.x o.x) (filled r.z o.z) (filled r.p o.p) (filled (claimed_of r) o.claimed)
 
 -- the answer a and what the outputs hold, where the first line that fits has the number f
-pub record RunRead (f : ℕ) (h : Front) (r : Run) (o o' : Outputs) (a : Opened) : Type 0 where
-  pub answer : a ≡ whole_or f h
+pub record RunRead (f : ℕ) (h : Front) (r : Run) (o o' : Outputs) (a : Result Front Refusal) : Type 0 where
+  pub answer : a ≡ answer_or f h
   pub left : o' ≡ left_or f o (filled_by r o)
 
 -- 17 to 20, then the checker's lines, then 14
 abbrev pub read_fault : List ℕ → Outputs → ℕ
 read_fault s o = by_rank (file_lines s ++ (run_lines (read_run s) ++ room_lines (read_run s) o))
 
-abbrev pub Reads : List ℕ → Outputs → Outputs → Opened → Type 0
+abbrev pub Reads : List ℕ → Outputs → Outputs → Result Front Refusal → Type 0
 Reads s o o' a = RunRead (read_fault s o) (front_at s) (read_run s) o o' a

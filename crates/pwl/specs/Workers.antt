@@ -1,5 +1,7 @@
 -- What inner functions ask and leave. Assumes nothing.
-use Rattle.std.specs.Prelude.{◌≡◌, true, List, [], ◌∷◌, ◌++◌, ℕ, ◌+◌, ◌*◌, ◌/◌, ◌%◌, ◌≤◌, ltb, length, get_or, drop, set}
+use Rattle.std.specs.Prelude.{◌≡◌, true, List, [], ◌∷◌, ◌++◌, ℕ, ◌+◌, ◌*◌, ◌/◌, ◌%◌, ◌≤◌, ltb, length, get_or, drop, set, Result}
+use Rattle.encoding.specs.Refusals.{done_or}
+use Rattle.encoding.specs.declared.Refusal.{Refusal}
 use Rattle.encoding.specs.Words.{with_bit}
 use Rattle.encoding.specs.Set.{Mem, mem_of, phase_units}
 use Rattle.encoding.specs.Ranks.{line, by_rank}
@@ -60,9 +62,9 @@ places_by q v f =
 abbrev pub places_of : Front → Places
 places_of f = places_by (f.m * words_of f.n) (phase_units f.m) f
 
--- the first line that fits what was to be reduced, of the run in a file
-abbrev pub TaskFault : Front → List ℕ → ℕ → Type 0
-TaskFault f s k = k ≡ reduce_fault f.n (task_of (run_by f s)).start (run_by f s).order (run_by f s).listed (run_by f s).extra
+-- what is answered of what was to be reduced, of the run in a file
+abbrev pub TaskFault : Front → List ℕ → Result Unit Refusal → Type 0
+TaskFault f s a = a ≡ done_or (reduce_fault f.n (task_of (run_by f s)).start (run_by f s).order (run_by f s).listed (run_by f s).extra)
 
 -- a number's mark is a bit: k has got its own
 unfoldable pub marked : ℕ → List ℕ → List ℕ

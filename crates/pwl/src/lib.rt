@@ -15,7 +15,7 @@ pub use reading::read;
 pub use writing::write;
 
 // The numbers in front of a file: n, m, and how many columns, listed rows, extra rows and log entries it has.
-#[derive(Clone, Copy)]
+#[derive(Clone, Copy, Debug, PartialEq, Eq)]
 pub struct Front {
     pub n: usize,
     pub m: usize,
@@ -35,18 +35,4 @@ pub(crate) struct Places {
     pub(crate) claim: usize,
     pub(crate) words: usize,
     pub(crate) phases: usize,
-}
-
-// What opening a file and reading one answer.
-#[derive(Drop)]
-pub enum Opened {
-    Whole(Front),
-    Refused(u8),
-}
-
-// What writing a file answers.
-#[derive(Drop)]
-pub enum Written {
-    Length(usize),
-    Refused(u8),
 }

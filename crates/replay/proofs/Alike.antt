@@ -2,48 +2,24 @@
 -- is looked for from row i on (`diff-here`, `diff-next`). Assumes nothing.
 use mathlib.Core.Path.{◌≡◌, refl, sym, ap, ap₂, ◌∙◌}
 use mathlib.Core.Bool.{Bool, true, false, cond, ◌&&◌}
-use mathlib.Core.List.{List}
 use mathlib.Core.Option.{none, some}
-use Prim.Native.Nat.{ℕ, zero, suc, ◌+◌, ◌*◌, ◌≤◌, ◌<◌}
+use Prim.Native.Nat.{ℕ, zero, suc, ◌+◌, ◌≤◌, ◌<◌}
 use native.Mathlib.Numerals.{add-one}
 use native.Mathlib.Omega.{arith}
-use borrow.Author.Tests.{lt-ltb, le-ltb}
 use lib.Dec.{eqb}
-use lib.ListN.{length, get_or}
-use lib.Seq.{ext_get_or}
+use lib.ListN.{get_or}
 use Rattle.pauli.specs.declared.PauliMatrix.TheVariants.{I}
 use Rattle.pauli.specs.Row.{same_qubits, same_row}
 use Rattle.encoding.specs.Words.{qubits}
 use Rattle.encoding.specs.Set.{row, Mem, count, exponent_at, rows_held, Valid}
-use Rattle.encoding.proofs.Parts.{row-end, get_d_part, length_part}
 use Rattle.encoding.proofs.Sets.{row_words}
 use Rattle.reduction.specs.Checker.{first_diff}
 use Rattle.pauli.proofs.Bools.{not_so}
 use Rattle.pauli.proofs.RowTests.{qubits→, →qubits}
-use native.Mathlib.Nat.{add-sub_cancel_left}
-use Rattle.replay.specs.Workers.{place_of}
-
--- ---- the words of a row
-
-pub rows-equal : (w k : ℕ) (xs ys : List ℕ) → k * w + w ≤ length xs → length ys ≡ length xs → ((j : ℕ) → j < w → get_or xs (k * w + j) 0 ≡ get_or ys (k * w + j) 0) → row w k xs ≡ row w k ys
-rows-equal w k xs ys h e f =
-    let long : (l : List ℕ) → k * w + w ≤ length l → length (row w k l) ≡ w = λ l g. length_part (k * w) (k * w + w) l (omega arith) g ∙ add-sub_cancel_left (k * w) w in
-    let lx = long xs h in
-    ext_get_or 0 (row w k xs) (row w k ys) (lx ∙ sym (long ys (omega arith)))
-    (λ i hi. let l : i < w = omega (arith, lx) in get_d_part (k * w) w xs i l ∙ f i l ∙ sym (get_d_part (k * w) w ys i l))
-
-pub rows-not : (w k : ℕ) (xs ys : List ℕ) (i : ℕ) → i < w → (get_or xs (k * w + i) 0 ≡ get_or ys (k * w + i) 0 → ⊥) → row w k xs ≡ row w k ys → ⊥
-rows-not w k xs ys i h ne e = ne (sym (get_d_part (k * w) w xs i h) ∙ ap (λ (l : List ℕ). get_or l i 0) e ∙ get_d_part (k * w) w ys i h)
 
 -- ---- row k of two sets of the same n and m
 
 module _ (n w : ℕ) {A B : Mem} (v : Valid n w A) (v' : Valid n w B) (m : count A ≡ count B) (k : ℕ) (h : k < count A) where
-  pub x-within : (k * w + w ≤ length A.xs) × (length B.xs ≡ length A.xs)
-  x-within = (omega (arith, row-end k w h, v.x-long), v'.x-long ∙ ap (λ (j : ℕ). j * w) (sym m) ∙ sym v.x-long)
-
-  pub z-within : (k * w + w ≤ length A.zs) × (length B.zs ≡ length A.zs)
-  z-within = (omega (arith, row-end k w h, v.z-long), v'.z-long ∙ ap (λ (j : ℕ). j * w) (sym m) ∙ sym v.z-long)
-
   -- the same qubits are the same words
   back : same_qubits n (qubits n (row w k A.xs) (row w k A.zs)) (qubits n (row w k B.xs) (row w k B.zs)) ≡ true
       → (row w k A.xs ≡ row w k B.xs) × (row w k A.zs ≡ row w k B.zs)
@@ -74,16 +50,16 @@ module _ {R : Type 0} (same : R → R → Bool) (σ τ : ℕ → R) (n i m : ℕ
   unfolding first_diff
   diff-at m' e = ap (first_diff same σ τ i) e ∙ ap (λ j. cond (same (σ i) (τ i)) (first_diff same σ τ j m') (some i)) (sym (add-one i))
 
-  pub diff-here : i < n → false ≡ same (σ i) (τ i) → place_of n i ≡ first_diff same σ τ i m
+  pub diff-here : i < n → false ≡ same (σ i) (τ i) → some i ≡ first_diff same σ τ i m
   diff-here h d = go m refl
     where
-      go : (k : ℕ) → m ≡ k → place_of n i ≡ first_diff same σ τ i m
+      go : (k : ℕ) → m ≡ k → some i ≡ first_diff same σ τ i m
       go zero e = absurd (omega arith)
-      go (suc k) e = ap (λ b. cond b (some i) none) (lt-ltb i n h) ∙ sym (diff-at k e ∙ ap (λ b. cond b (first_diff same σ τ (i + 1) k) (some i)) (sym d))
+      go (suc k) e = sym (diff-at k e ∙ ap (λ b. cond b (first_diff same σ τ (i + 1) k) (some i)) (sym d))
 
   pub diff-next : true ≡ same (σ i) (τ i) → (m' : ℕ) → m ≡ suc m' → first_diff same σ τ (i + 1) m' ≡ first_diff same σ τ i m
   diff-next d m' e = sym (diff-at m' e ∙ ap (λ b. cond b (first_diff same σ τ (i + 1) m') (some i)) (sym d))
 
-  pub diff-end : n ≤ i → place_of n i ≡ first_diff same σ τ i m
+  pub diff-end : n ≤ i → none ≡ first_diff same σ τ i m
   unfolding first_diff
-  diff-end h = let e : m ≡ 0 = omega arith in ap (λ b. cond b (some i) none) (le-ltb i n h) ∙ sym (ap (first_diff same σ τ i) e)
+  diff-end h = let e : m ≡ 0 = omega arith in sym (ap (first_diff same σ τ i) e)

@@ -4,8 +4,7 @@ use mathlib.Core.Path.{◌≡◌, refl, sym, ap, ◌∙◌, subst}
 use mathlib.Core.Logic.{◌↔◌, ◌⊎◌, ⊎_elim}
 use mathlib.Core.Bool.{false, cond}
 use mathlib.Core.List.{List, [], ◌∷◌, ◌++◌}
-use mathlib.Core.Option.{Option, none, some}
-use Prim.Native.Nat.{ℕ, zero, suc, ◌+◌, ◌≤◌, ◌<◌}
+use Prim.Native.Nat.{ℕ, suc, ◌+◌, ◌≤◌, ◌<◌}
 use native.Mathlib.Omega.{arith}
 use borrow.Author.Tests.{ne_eqb}
 use lib.Dec.{eqb}
@@ -13,7 +12,9 @@ use lib.ListN.{length}
 use Rattle.pauli.specs.Row.{Row, mul_row, bit_row, same_row}
 use Rattle.encoding.specs.Limits.{words_of}
 use Rattle.encoding.specs.Set.{Mem, count, rows_held, rows_of, lay}
-use Rattle.encoding.specs.Refusals.{left_or}
+use Rattle.std.specs.Prelude.{Ok}
+use Rattle.encoding.specs.Refusals.{answer_or, left_or}
+use Rattle.encoding.proofs.Faults.{value-is}
 use Rattle.encoding.proofs.Memory.{lay-back}
 use Rattle.encoding.proofs.Sets.{same-words, same-phases}
 use Rattle.encoding.proofs.Exponents.{exponent_small}
@@ -31,23 +32,22 @@ use Rattle.reduction.proofs.Entries.{BadAt}
 use Rattle.reduction.proofs.Checker.{DiffersAt}
 use Rattle.reduction.proofs.PauliRows.{rows-laws, rows_tell}
 use Rattle.encoding.specs.Ranks.{TableLine, by_rank}
-use Rattle.encoding.proofs.Ranks.{Given, given-iff}
+use Rattle.encoding.proofs.Ranks.{Given, answer-refused}
 use Rattle.terms.proofs.Whole.{every-once}
-use Rattle.replay.specs.Check.{Task, Claim, Passed, Checked, check_fault, verdict_on, working_for, given, given_or}
+use Rattle.replay.specs.Check.{Task, Claim, Passed, Checked, check_fault, verdict_on, working_for, given, given_or, CheckAnswer, BadEntry, Differs, NotReduced, Yes, Refused}
 use Rattle.replay.specs.Demand.{RightClaim, EveryColumn, NoPhaseAtStart}
 use Rattle.replay.specs.declared.Verdict.{Verdict}
-use Rattle.replay.specs.declared.Verdict.TheVariants.{BadEntry, Differs, NotReduced, Yes, Refused}
+use Rattle.replay.specs.declared.Verdict.TheVariants as said
 
 -- ---- the answer tells the verdict
 
-back : Verdict → Option checker.Verdict
-back (BadEntry i) = some (bad_entry i)
-back (Differs k) = some (differs k)
-back NotReduced = some not_reduced
-back Yes = some accepted
-back (Refused k) = none
+back : Verdict → checker.Verdict
+back (said.BadEntry i) = bad_entry i
+back (said.Differs k) = differs k
+back said.NotReduced = not_reduced
+back said.Yes = accepted
 
-back-given : (v : checker.Verdict) → back (given v) ≡ some v
+back-given : (v : checker.Verdict) → back (given v) ≡ v
 unfolding back
 back-given (bad_entry i) = refl
 back-given (differs k) = refl
@@ -55,10 +55,8 @@ back-given not_reduced = refl
 back-given accepted = refl
 
 -- an answer that is a verdict's name: nothing is refused, and that is the verdict
-told : (k : ℕ) {v : checker.Verdict} {r : Verdict} → r ≡ given_or k v → (v' : checker.Verdict) → r ≡ given v' → (k ≡ 0) × (v ≡ v')
-unfolding back
-told zero {v} {r} e v' f = (refl, let p : some v ≡ some v' = sym (back-given v) ∙ ap back (sym e ∙ f) ∙ back-given v' in (cc))
-told (suc k) {v} {r} e v' f = absurd (let p : none ≡ some v' = ap back (sym e ∙ f) ∙ back-given v' in let z : ◌≡◌ {A = ℕ} 0 1 = cc in omega arith)
+told : (k : ℕ) {v : checker.Verdict} {r : CheckAnswer} → r ≡ given_or k v → (v' : checker.Verdict) → r ≡ Ok (given v') → (k ≡ 0) × (v ≡ v')
+told k {v} {r} e v' f = let p = value-is k (given v) (given v') (sym e ∙ f) in (p.0, sym (back-given v) ∙ ap back p.1 ∙ back-given v')
 
 -- the phases of a row set
 phase-small : (n w : ℕ) (M : Mem) (k : ℕ) → (rows_held n w M k).p < 4
@@ -76,9 +74,13 @@ replay-others mul σ listed extra k out (e ∷ es) g =
 
 -- ---- one check
 
-module _ {T : Task} {L : Claim} {r : Verdict} {left : Mem} (c : Checked T L r left) where
-  on-verdict : (v : checker.Verdict) → r ≡ given v → (check_fault T L ≡ 0) × (verdict_on T L ≡ v)
+module _ {T : Task} {L : Claim} {r : CheckAnswer} {left : Mem} (c : Checked T L r left) where
+  on-verdict : (v : checker.Verdict) → r ≡ Ok (given v) → (check_fault T L ≡ 0) × (verdict_on T L ≡ v)
   on-verdict v e = told (check_fault T L) c.answer v e
+
+  answered : {v : checker.Verdict} → verdict_on T L ≡ v → given_or 0 (verdict_on T L) ≡ Ok (given v)
+  unfolding answer_or
+  answered e = ap (λ v. Ok (given v)) e
 
   right-iff : check_fault T L ≡ 0 → (verdict_on T L ≡ accepted) ↔ RightClaim T L
   right-iff z = theorems.yes-exactly (rows-laws T.n) (rows_tell T.n) (c.passed z).of-task.asked (rows_of T.n T.start) (pairs L.log) (rows_of T.n L.rows)
@@ -88,7 +90,7 @@ module _ {T : Task} {L : Claim} {r : Verdict} {left : Mem} (c : Checked T L r le
   pub yes-exactly : (r ≡ Yes) ↔ ((check_fault T L ≡ 0) × RightClaim T L)
   yes-exactly = (
     λ e. let y = on-verdict accepted e in (y.0, (right-iff y.0).0 y.1),
-    λ h. c.answer ∙ ap (λ k. given_or k (verdict_on T L)) h.0 ∙ ap given ((right-iff h.0).1 h.1),
+    λ h. c.answer ∙ ap (λ k. given_or k (verdict_on T L)) h.0 ∙ answered ((right-iff h.0).1 h.1),
   )
 
   -- What is accepted has an order without repeats, since nothing was refused;
@@ -174,14 +176,9 @@ module _ {T : Task} {A B : Claim} {left left' : Mem} (c : Checked T A Yes left) 
 -- ---- refusals: the number k + 1 is given exactly when its line of the table fits and none before it does
 
 pub verdict-refused : (v : checker.Verdict) (ls : List TableLine) (k : ℕ) → (given_or (by_rank ls) v ≡ Refused (suc k)) ↔ Given (suc k) ls
-unfolding back
-verdict-refused v = given-iff Refused (λ f. given_or f v) (λ k. refl) only
-  where
-    only : (f k : ℕ) → given_or f v ≡ Refused (suc k) → f ≡ suc k
-    only zero k e = absurd (let p : none ≡ some v = sym (ap back e) ∙ back-given v in let z : ◌≡◌ {A = ℕ} 0 1 = cc in omega arith)
-    only (suc f) k e = cc
+verdict-refused v = answer-refused (given v)
 
 -- ---- the contract leaves no choice: any two outcomes that it allows are the same
 
-pub determined : {T : Task} {L : Claim} {r r' : Verdict} {left left' : Mem} → Checked T L r left → Checked T L r' left' → (r ≡ r') × (left ≡ left')
+pub determined : {T : Task} {L : Claim} {r r' : CheckAnswer} {left left' : Mem} → Checked T L r left → Checked T L r' left' → (r ≡ r') × (left ≡ left')
 determined c d = (c.answer ∙ sym d.answer, c.rows ∙ sym d.rows)

@@ -6,7 +6,7 @@ use Prim.Native.Nat.{ℕ}
 use Rattle.pauli.specs.Row.{pad_mul, mul_row, bit_of, same_qubits}
 use Rattle.encoding.specs.Words.{word, unpack, join, pack, lay_rows}
 use Rattle.encoding.specs.Set.{Mem, mem_of, word_in, exponent_at, lay_exponents, rows_held, list, lay_in}
-use Rattle.encoding.specs.Refusals.{some, some_below, bad_bits, bad_phases, left_or}
+use Rattle.encoding.specs.Refusals.{some, some_below, bad_bits, bad_phases, answer_or, left_or}
 use Rattle.reduction.specs.Lists.{All, has, distinct, every}
 use Rattle.reduction.specs.Rule.{mul_at}
 use Rattle.reduction.specs.Replay.{replay}
@@ -14,15 +14,13 @@ use Rattle.reduction.specs.Log.{pairs}
 use Rattle.reduction.specs.Form.{zeros_in, only_in, reduced_from, reduced}
 use Rattle.reduction.specs.Checker.{good, first_bad, first_diff, verdict_by, verdict, working, working_by}
 use Rattle.encoding.specs.Ranks.{by_rank, place_in, placed, joined}
-use Rattle.replay.specs.Check.{Task, task, Claim, claim, check_fault, given_or, verdict_on, working_for}
-use Rattle.replay.specs.declared.Verdict.{Verdict}
-use Rattle.replay.specs.declared.Verdict.TheVariants.{BadEntry, Differs, NotReduced, Yes, Refused}
+use Rattle.replay.specs.Check.{Task, task, Claim, claim, check_fault, given_or, verdict_on, working_for, CheckAnswer, BadEntry, Differs, NotReduced, Yes, Refused}
 
 -- a line and its answer
 pub record Line : Type 0 where
   pub given : Task
   pub claimed : Claim
-  pub says : Verdict
+  pub says : CheckAnswer
   pub left : Mem
 
 -- the contract allows this answer and these working rows, and by `determined` no others
@@ -71,5 +69,5 @@ lines =
     ∷ []
 
 pub page : All Answered lines
-unfolding pad_mul mul_row bit_of same_qubits word unpack join pack lay_rows word_in exponent_at lay_exponents rows_held list lay_in by_rank place_in placed joined some some_below bad_bits bad_phases has distinct every mul_at replay pairs zeros_in only_in reduced_from reduced good first_bad first_diff verdict_by verdict working working_by
+unfolding answer_or pad_mul mul_row bit_of same_qubits word unpack join pack lay_rows word_in exponent_at lay_exponents rows_held list lay_in by_rank place_in placed joined some some_below bad_bits bad_phases has distinct every mul_at replay pairs zeros_in only_in reduced_from reduced good first_bad first_diff verdict_by verdict working working_by
 page = ((refl, refl), ((refl, refl), ((refl, refl), ((refl, refl), ((refl, refl), ((refl, refl), ((refl, refl), ((refl, refl), ((refl, refl), ((refl, refl), tt))))))))))

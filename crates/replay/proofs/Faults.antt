@@ -1,38 +1,20 @@
 -- The refusals of a check: the first line of its parts by rank, and what nothing refused leaves. Of both parts the smaller number is the earlier
 -- (`joined-fault`), and the log's comes behind them (`rank-append`). Assumes nothing.
 use mathlib.Core.Path.{◌≡◌, refl, sym, ap, ap₂, ◌∙◌}
-use mathlib.Core.Bool.{false, true, cond, not}
-use mathlib.Core.List.{List, [], ◌∷◌}
-use Prim.Native.Nat.{ℕ, zero, suc}
-use native.Mathlib.Nat.{suc-ne-zero}
-use borrow.Author.Tests.{ne_eqb}
-use lib.Dec.{eqb}
+use mathlib.Core.Bool.{false, true}
+use mathlib.Core.List.{[], ◌∷◌}
 use lib.ListN.{length}
-use Rattle.encoding.specs.Limits.{words_of}
+use Rattle.std.specs.Prelude.{Result, Ok, Err, IfOk}
 use Rattle.encoding.specs.Words.{odd}
-use Rattle.encoding.specs.Set.{Mem, count, Valid}
-use Rattle.encoding.specs.Refusals.{least, left_or}
+use Rattle.encoding.specs.Set.{Mem}
+use Rattle.encoding.specs.Refusals.{least, smaller, answer_or, done_or}
+use Rattle.encoding.specs.declared.Refusal.{Refusal}
 use Rattle.pauli.specs.Lists.{every}
-use Rattle.encoding.proofs.Faults.{least-none, or_else, or-none, kept}
-use Rattle.encoding.specs.Ranks.{by_rank, TableLine, line, place_in, placed, joined}
+use Rattle.encoding.proofs.Faults.{least-none, or_else, or-none, first_by, next_by, if-ok, smaller-is}
+use Rattle.encoding.specs.Ranks.{by_rank, place_in, placed, joined}
 use Rattle.terms.specs.Refused.{reduce_fault}
 use Rattle.encoding.proofs.Ranks.{none-holds, counted, rank-append, Fitting, joined-fault}
-use Rattle.replay.specs.Check.{Task, Claim, task_lines, claim_lines, odd_log, check_fault, TaskPassed, Passed, given_or, verdict_on, working_for, Checked}
-use Rattle.replay.specs.Workers.{Judged}
-use Rattle.replay.specs.declared.Verdict.{Verdict}
-use Rattle.replay.specs.declared.Verdict.TheVariants.{Refused}
-
--- ---- one after the other
-
-pub log-number : (s units : ℕ) {x y : ℕ} → y ≡ cond (odd units) 9 0 → x ≡ cond (not (eqb s 0)) s y → x ≡ by_rank (line s (not (eqb s 0)) ∷ odd_log units ∷ [])
-unfolding by_rank
-log-number s units ey ex = ex ∙ ap (cond (not (eqb s 0)) s) ey
-
--- a number, or else the lines below it
-pub first_of : (s : ℕ) (ls : List TableLine) → by_rank (line s (not (eqb s 0)) ∷ ls) ≡ or_else s (by_rank ls)
-unfolding by_rank
-first_of zero ls = refl
-first_of (suc s) ls = ap (λ b. cond (not b) (suc s) (by_rank ls)) (ne_eqb (suc s) 0 (λ z. suc-ne-zero s z))
+use Rattle.replay.specs.Check.{Task, Claim, task_lines, claim_lines, odd_log, check_fault, Passed}
 
 -- ---- the call
 
@@ -60,42 +42,22 @@ check-none T L z =
     let p = least-none a b o.0 in
     (p.0, p.1, none-holds (odd_log (length L.log) ∷ []) refl o.1 0)
 
-module _ (T : Task) (L : Claim) {a b s f : ℕ} (pa : a ≡ reduce_fault T.n T.start T.order T.listed T.extra) (pb : b ≡ by_rank (claim_lines T.n L.rows))
-    (e : s ≡ least a b) (ef : f ≡ by_rank (line s (not (eqb s 0)) ∷ odd_log (length L.log) ∷ [])) where
-  pub check-number : f ≡ check_fault T L
-  check-number =
-      ef ∙ first_of s (odd_log (length L.log) ∷ [])
-      ∙ ap (λ k. or_else k (by_rank (odd_log (length L.log) ∷ []))) (e ∙ ap₂ least pa pb)
-      ∙ sym (check-in-turn T L)
+-- by the answers of the parts: the smaller refusal, or else that of the log
+module _ (T : Task) (L : Claim) {a b s : Result Unit Refusal} (pa : a ≡ done_or (reduce_fault T.n T.start T.order T.listed T.extra)) (pb : b ≡ done_or (by_rank (claim_lines T.n L.rows))) (e : s ≡ smaller a b) where
+  parts-number : s ≡ done_or (least (by_rank (task_lines T)) (by_rank (claim_lines T.n L.rows)))
+  parts-number = e ∙ ap₂ smaller pa pb ∙ smaller-is (by_rank (task_lines T)) (by_rank (claim_lines T.n L.rows))
 
-  module _ (ta : a ≡ 0 → TaskPassed T) (tb : b ≡ 0 → Valid T.n (words_of T.n) L.rows) (many : count L.rows ≡ count T.start) where
-    pub check-passed : f ≡ 0 → Passed T L.rows
-    check-passed z =
-        let none = or-none s (by_rank (odd_log (length L.log) ∷ [])) (sym (first_of s (odd_log (length L.log) ∷ [])) ∙ sym ef ∙ z) in
-        let p = least-none a b (sym e ∙ none.0) in
-        record { of-task = ta p.0; of-claim = record { claimed-set = tb p.1; as_many = many } }
+  pub parts-refuse : {r : Refusal} → s ≡ Err r → Err r ≡ done_or (check_fault T L)
+  parts-refuse h =
+      first_by (least (by_rank (task_lines T)) (by_rank (claim_lines T.n L.rows))) (by_rank (odd_log (length L.log) ∷ [])) tt parts-number h tt
+      ∙ ap done_or (sym (check-in-turn T L))
 
--- by the number, and what it tells
-module _ (T : Task) (L : Claim) {f : ℕ} (number : f ≡ check_fault T L) (passed : f ≡ 0 → Passed T L.rows) where
-  -- refused: nothing is changed
-  pub refusing : (f ≡ 0 → ⊥) → Checked T L (Refused f) T.start
-  refusing ne =
-      record {
-        answer = go f ne ∙ ap (λ k. given_or k (verdict_on T L)) number;
-        rows = kept f T.start (working_for T L) ne ∙ ap (λ k. left_or k T.start (working_for T L)) number;
-        passed = λ z. passed (number ∙ z);
-      }
-    where
-      go : (k : ℕ) → (k ≡ 0 → ⊥) → Refused k ≡ given_or k (verdict_on T L)
-      go zero h = absurd (h refl)
-      go (suc k) h = refl
+  pub log-decides : {u : Unit} {f : Result Unit Refusal} → s ≡ Ok u → f ≡ done_or (by_rank (odd_log (length L.log) ∷ [])) → f ≡ done_or (check_fault T L)
+  log-decides h l =
+      next_by (least (by_rank (task_lines T)) (by_rank (claim_lines T.n L.rows))) (by_rank (odd_log (length L.log) ∷ [])) tt parts-number h tt l
+      ∙ ap done_or (sym (check-in-turn T L))
 
-  -- not refused: what the worker says
-  pub judging : {r : Verdict} {left : Mem} → f ≡ 0 → Judged T L r left → Checked T L r left
-  judging z j =
-      let n : check_fault T L ≡ 0 = sym number ∙ z in
-      record {
-        answer = j.answer ∙ ap (λ k. given_or k (verdict_on T L)) (sym n);
-        rows = j.rows ∙ ap (λ k. left_or k T.start (working_for T L)) (sym n);
-        passed = λ _. passed z;
-      }
+-- what the answer of the tests tells
+pub tells : (T : Task) (L : Claim) {f : Result Unit Refusal} → f ≡ done_or (check_fault T L) → IfOk f (λ _. Passed T L.rows) → check_fault T L ≡ 0 → Passed T L.rows
+unfolding answer_or
+tells T L by passed z = if-ok (Passed T L.rows) (by ∙ ap done_or z) passed

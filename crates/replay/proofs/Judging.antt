@@ -3,13 +3,15 @@
 use mathlib.Core.Path.{◌≡◌, refl, sym, ap, ap₂, ◌∙◌, subst}
 use mathlib.Core.Logic.{inl, inr}
 use mathlib.Core.Bool.{Bool, true, false, cond, not, ◌&&◌, ◌||◌}
-use mathlib.Core.Option.{Option, none, some}
+use mathlib.Core.Option as math
+use mathlib.Core.Option.{none, some}
 use mathlib.Core.List.{List, [], ◌∷◌, ◌++◌}
 use Prim.Native.Nat.{ℕ, ◌+◌, ◌/◌, ◌≤◌, ◌<◌}
 use native.Mathlib.Omega.{arith}
 use borrow.Author.Tests.{lt-leb}
 use lib.Dec.{eqb}
 use lib.ListN.{length, take}
+use Rattle.std.specs.Prelude.{Option, Some, None}
 use Rattle.pauli.specs.Row.{Row, mul_row, bit_row, same_row}
 use Rattle.encoding.specs.Limits.{max_rows, words_of}
 use Rattle.encoding.specs.Set.{Mem, count, rows_of, lay, Sound}
@@ -29,10 +31,9 @@ use Rattle.reduction.proofs.Entries.{bad-none}
 use Rattle.terms.specs.Workers.{bit_in, mul_in}
 use Rattle.terms.proofs.RowView.{bit-view, mul-view}
 use Rattle.replay.specs.Check.{Task, task, Claim, claim, Passed, given, verdict_on}
-use Rattle.replay.specs.Workers.{self, redone, place_of, Judged}
+use Rattle.replay.specs.Workers.{self, redone, found, Judged}
 use Rattle.replay.specs.declared.Verdict.{Verdict}
 use Rattle.replay.specs.declared.Verdict.TheVariants.{BadEntry, Differs, NotReduced, Yes}
-use Rattle.replay.proofs.Log.{place_in, place_out}
 
 -- ---- the entries done in memory
 
@@ -95,19 +96,19 @@ form-view {n} {M} order listed extra s a =
 
 module _ (T : Task) (C : Mem) where
   -- the verdict on an empty log is by the first row that differs and by the form
-  on-empty : {d : Option ℕ} {b : Bool} → first_diff (same_row T.n) (rows_of T.n T.start) (rows_of T.n C) 0 (count T.start) ≡ d
+  on-empty : {d : math.Option ℕ} {b : Bool} → first_diff (same_row T.n) (rows_of T.n T.start) (rows_of T.n C) 0 (count T.start) ≡ d
       → reduced (bit_row T.n) T.order T.listed T.extra (rows_of T.n T.start) ≡ b → verdict_by none d b ≡ verdict_on T (claim [] C)
   unfolding verdict first_bad replay pairs
   on-empty p q = sym (ap₂ (verdict_by none) p q)
 
-  module _ (s : Passed T C) {d : ℕ} (e : place_of (count T.start) d ≡ first_diff (same_row T.n) (rows_of T.n T.start) (rows_of T.n C) 0 (count T.start)) where
-    pub says-differs : d < count T.start → Differs d ≡ given (verdict_on T (claim [] C))
+  module _ (s : Passed T C) {d : Option ℕ} (e : found d ≡ first_diff (same_row T.n) (rows_of T.n T.start) (rows_of T.n C) 0 (count T.start)) where
+    pub says-differs : {k : ℕ} → d ≡ Some k → Differs k ≡ given (verdict_on T (claim [] C))
     unfolding verdict_by
-    says-differs h = ap given (on-empty (place_in (count T.start) d h e) refl)
+    says-differs h = ap given (on-empty (sym e ∙ ap found h) refl)
 
-    module _ (h : count T.start ≤ d) {b : Bool} (f : b ≡ reduced (bit_in T.n T.start.xs T.start.zs) T.order T.listed T.extra self) where
+    module _ (h : d ≡ None) {b : Bool} (f : b ≡ reduced (bit_in T.n T.start.xs T.start.zs) T.order T.listed T.extra self) where
       says : verdict_by none none b ≡ verdict_on T (claim [] C)
-      says = on-empty (place_out (count T.start) d h e) (sym (f ∙ form-view T.order T.listed T.extra s.of-task.sound s.of-task.asked))
+      says = on-empty (sym e ∙ ap found h) (sym (f ∙ form-view T.order T.listed T.extra s.of-task.sound s.of-task.asked))
 
       pub says-yes : b ≡ true → Yes ≡ given (verdict_on T (claim [] C))
       unfolding verdict_by
@@ -131,14 +132,14 @@ few {N} {m} {order} {listed} {extra} a h = (
   none-large max_rows extra (λ k i. omega (arith, a.rows_in k (in_right k listed extra i))),
 )
 
-module _ (T : Task) (L : Claim) (s : Passed T L.rows) {b : ℕ} (e : place_of (length L.log / 2) b ≡ first_bad T.listed T.extra 0 (pairs L.log)) where
+module _ (T : Task) (L : Claim) (s : Passed T L.rows) {b : Option ℕ} (e : found b ≡ first_bad T.listed T.extra 0 (pairs L.log)) where
   -- a bad entry: the working rows are the starting rows still
-  pub judge-bad : {k : ℕ} {M : Mem} → b < length L.log / 2 → k ≡ 0 → M ≡ redone T.n (take k (pairs L.log)) T.start → Judged T L (BadEntry b) M
+  pub judge-bad : {k : ℕ} {M : Mem} {i : ℕ} → b ≡ Some i → k ≡ 0 → M ≡ redone T.n (take k (pairs L.log)) T.start → Judged T L (BadEntry i) M
   unfolding verdict verdict_by working working_by redone
-  judge-bad {k} {M} h z m =
+  judge-bad {k} {M} {i} h z m =
       let n = T.n in
       let σ = rows_of n T.start in
-      let p : first_bad T.listed T.extra 0 (pairs L.log) ≡ some b = place_in (length L.log / 2) b h e in
+      let p : first_bad T.listed T.extra 0 (pairs L.log) ≡ some i = sym e ∙ ap found h in
       record {
         answer =
             sym (ap (λ o. given (verdict_by o (first_diff (same_row n) (replay (mul_row n) σ (pairs L.log)) (rows_of n L.rows) 0 (count T.start))
@@ -148,9 +149,9 @@ module _ (T : Task) (L : Claim) (s : Passed T L.rows) {b : ℕ} (e : place_of (l
             ∙ sym (ap (λ o. lay n (count T.start) (working_by (mul_row n) o σ (pairs L.log))) p ∙ lay-back n (words_of n) s.of-task.sound.valid);
       }
 
-  module _ (h : length L.log / 2 ≤ b) where
+  module _ (h : b ≡ None) where
     no-bad : first_bad T.listed T.extra 0 (pairs L.log) ≡ none
-    no-bad = place_out (length L.log / 2) b h e
+    no-bad = sym e ∙ ap found h
 
     inside : All (Inside (count T.start)) (pairs L.log)
     inside = good-inside s.of-task.asked (pairs L.log) (bad-none T.listed T.extra 0 (pairs L.log) no-bad)

@@ -2,26 +2,17 @@
 -- entries done and one more are i + 1 (`redo-more`). Assumes nothing.
 use mathlib.Core.Path.{◌≡◌, refl, sym, ap, ◌∙◌}
 use mathlib.Core.Bool.{Bool, true, false, cond}
-use mathlib.Core.Option.{Option, none, some}
+use mathlib.Core.Option.{none, some}
 use mathlib.Core.List.{List, [], ◌∷◌, ◌++◌}
 use Prim.Native.Nat.{ℕ, ◌+◌, ◌/◌, ◌≤◌, ◌<◌}
 use native.Mathlib.Numerals.{add-one}
-use borrow.Author.Tests.{lt-ltb, le-ltb}
 use lib.ListN.{length, get_or, take, drop}
 use Rattle.encoding.specs.Set.{Mem}
 use Rattle.reduction.specs.Rule.{Entry, entry}
 use Rattle.reduction.specs.Log.{pairs}
 use Rattle.reduction.proofs.Log.{pairs-at, pairs_end, take_more}
 use Rattle.terms.specs.Workers.{mul_in}
-use Rattle.replay.specs.Workers.{first_bad_by, place_of, redone}
-
--- ---- places
-
-pub place_in : (n r : ℕ) {o : Option ℕ} → r < n → place_of n r ≡ o → o ≡ some r
-place_in n r h e = sym e ∙ ap (λ b. cond b (some r) none) (lt-ltb r n h)
-
-pub place_out : (n r : ℕ) {o : Option ℕ} → n ≤ r → place_of n r ≡ o → o ≡ none
-place_out n r h e = sym e ∙ ap (λ b. cond b (some r) none) (le-ltb r n h)
+use Rattle.replay.specs.Workers.{first_bad_by, redone}
 
 -- ---- the first bad entry: what is left to look at, from here, says the same as the whole
 
@@ -35,14 +26,13 @@ module _ (f : Entry → Bool) (l : List ℕ) (i : ℕ) where
   pub bad-next : i < length l / 2 → true ≡ f (entry (get_or l (i + i) 0) (get_or l (i + i + 1) 0)) → first_bad_by f (i + 1) (drop (i + 1) (pairs l)) ≡ first_bad_by f i (drop i (pairs l))
   bad-next h e = sym (bad-at h ∙ ap (λ b. cond b (first_bad_by f (i + 1) (drop (i + 1) (pairs l))) (some i)) (sym e))
 
-  pub bad-here : i < length l / 2 → false ≡ f (entry (get_or l (i + i) 0) (get_or l (i + i + 1) 0)) → place_of (length l / 2) i ≡ first_bad_by f i (drop i (pairs l))
+  pub bad-here : i < length l / 2 → false ≡ f (entry (get_or l (i + i) 0) (get_or l (i + i + 1) 0)) → some i ≡ first_bad_by f i (drop i (pairs l))
   bad-here h e =
-      ap (λ b. cond b (some i) none) (lt-ltb i (length l / 2) h)
-      ∙ sym (bad-at h ∙ ap (λ b. cond b (first_bad_by f (i + 1) (drop (i + 1) (pairs l))) (some i)) (sym e))
+      sym (bad-at h ∙ ap (λ b. cond b (first_bad_by f (i + 1) (drop (i + 1) (pairs l))) (some i)) (sym e))
 
-  pub bad-end : length l / 2 ≤ i → place_of (length l / 2) i ≡ first_bad_by f i (drop i (pairs l))
+  pub bad-end : length l / 2 ≤ i → none ≡ first_bad_by f i (drop i (pairs l))
   unfolding first_bad_by
-  bad-end h = ap (λ b. cond b (some i) none) (le-ltb i (length l / 2) h) ∙ sym (ap (first_bad_by f i) (pairs_end i l h))
+  bad-end h = sym (ap (first_bad_by f i) (pairs_end i l h))
 
 -- ---- the entries done in memory: the first i of them
 

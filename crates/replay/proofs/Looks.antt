@@ -1,44 +1,19 @@
--- The test of reduced form, a row and a column at a time, over any rows: what is left to look at says the same as the whole, so that a loop goes one row or one
--- column on, or ends with the answer (`every-next`, `test-next`). Assumes nothing.
+-- The test of reduced form, a column at a time, over any rows: what is left to look at says the same as the whole, so that a loop goes one column on, or ends with
+-- the answer (`test-next`). Assumes nothing.
 use mathlib.Core.Path.{◌≡◌, refl, sym, ap, ap₂, ◌∙◌, subst}
-use mathlib.Core.Bool.{Bool, true, false, cond, not, ◌&&◌, ◌||◌}
+use mathlib.Core.Bool.{Bool, true, false, cond, not, ◌&&◌}
 use mathlib.Core.List.{List, [], ◌∷◌, ◌++◌}
 use Prim.Native.Nat.{ℕ, suc, ◌+◌, ◌≤◌, ◌<◌}
 use native.Mathlib.Numerals.{add-one}
 use native.Mathlib.Omega.{arith}
-use borrow.Author.Tests.{eq-eqb, ne_eqb}
 use lib.ListN.{length, get_or, drop, drop_of_length-le, length-drop}
 use lib.Seq.{drop-cons}
 use Rattle.reduction.specs.Lists.{every}
 use Rattle.reduction.specs.Form.{zeros_in, only_in, reduced_from}
-use Rattle.terms.specs.Workers.{bit_in, first_place}
+use Rattle.std.specs.Prelude.{Some, None}
+use Rattle.terms.proofs.RowView.{from_is, from_past}
+use Rattle.terms.specs.Workers.{bit_in, first_place, place_from}
 use Rattle.replay.specs.Workers.{off_in, self, Looked}
-
--- ---- one row of a column
-
-module _ (n : ℕ) (xs zs : List ℕ) (c p k : ℕ) where
-  pub off-same : k ≡ p → true ≡ off_in n xs zs c p k
-  off-same e = sym (ap (λ b. b || not (bit_in n xs zs k c)) (eq-eqb k p e))
-
-  pub off-other : {b : Bool} → (k ≡ p → ⊥) → b ≡ bit_in n xs zs k c → not b ≡ off_in n xs zs c p k
-  off-other {b} ne e = ap not e ∙ sym (ap (λ x. x || not (bit_in n xs zs k c)) (ne_eqb k p ne))
-
--- ---- a test at each of a list: what is left to look at says the same as the whole
-
-module _ (f : ℕ → Bool) (l : List ℕ) (i : ℕ) where
-  every-at : i < length l → every f (drop i l) ≡ (f (get_or l i 0) && every f (drop (i + 1) l))
-  unfolding every
-  every-at h = rw (add-one, drop-cons l i 0 h)
-
-  pub every_here : i < length l → false ≡ f (get_or l i 0) → false ≡ every f (drop i l)
-  every_here h e = sym (every-at h ∙ ap (λ b. b && every f (drop (i + 1) l)) (sym e))
-
-  pub every-next : i < length l → true ≡ f (get_or l i 0) → every f (drop (i + 1) l) ≡ every f (drop i l)
-  every-next h e = sym (every-at h ∙ ap (λ b. b && every f (drop (i + 1) l)) (sym e))
-
-  pub every-end : length l ≤ i → true ≡ every f (drop i l)
-  unfolding every
-  every-end h = sym (ap (every f) (drop_of_length-le l h))
 
 every_append : (f : ℕ → Bool) (xs ys : List ℕ) → every f (xs ++ ys) ≡ (every f xs && every f ys)
 unfolding every
@@ -106,33 +81,41 @@ module _ (n : ℕ) (xs zs : List ℕ) (c : ℕ) where
     pivoted p rest cs h =
         ap (λ b. cond b (reduced_from (bit_in n xs zs) self all (p ∷ rest) cs) (only_in (bit_in n xs zs) self c p all && reduced_from (bit_in n xs zs) self all rest cs)) (some-on (p ∷ rest) h)
 
-    -- f is the place found, from t on
-    pub looked-none : {f : ℕ} → f ≡ t + first_place on (drop t listed) → length listed ≤ f → Looked n xs zs listed extra t c true t
+    -- no place is found, from t on, or one is
+    pub looked-none : None ≡ place_from on t listed → Looked n xs zs listed extra t c (Some t)
     unfolding all
-    looked-none e h cs = passed (drop t listed) cs (omega (arith, length-drop t listed))
+    looked-none e cs = let p = from_past on t listed (sym e) in passed (drop t listed) cs (omega (arith, length-drop t listed))
 
-    pub found_in : {f : ℕ} → f ≡ t + first_place on (drop t listed) → f < length listed → t < length listed
-    found_in e h = omega arith
+    pub found_in : {f : ℕ} → place_from on t listed ≡ Some f → t < length listed
+    found_in e = let p = from_is on t listed e in omega (arith, p.0, p.1)
 
-    pub looked-some : {f : ℕ} {ok : Bool} → f ≡ t + first_place on (drop t listed) → f < length listed → ok ≡ only_in (bit_in n xs zs) self c (get_or listed t 0) (listed ++ extra)
-        → Looked n xs zs listed extra t c ok (t + 1)
-    unfolding all
-    looked-some {f} {ok} e h o cs =
-        let split = drop-cons listed t 0 (found_in e h) in
-        let inside : first_place on (drop t listed) < length (drop t listed) = omega (arith, length-drop t listed) in
+    looked-some : {f : ℕ} → place_from on t listed ≡ Some f → (cs : List ℕ)
+        → reduced_from (bit_in n xs zs) self all (drop t listed) (c ∷ cs) ≡ (only_in (bit_in n xs zs) self c (get_or listed t 0) all && reduced_from (bit_in n xs zs) self all (drop (t + 1) listed) cs)
+    looked-some {f} e cs =
+        let p = from_is on t listed e in
+        let split = drop-cons listed t 0 (found_in e) in
+        let inside : first_place on (drop t listed) < length (drop t listed) = omega (arith, length-drop t listed, p.0, p.1) in
         ap (λ l. reduced_from (bit_in n xs zs) self all l (c ∷ cs)) split
         ∙ pivoted (get_or listed t 0) (drop (suc t) listed) cs (subst (λ l. first_place on l < length l) split inside)
-        ∙ ap₂ (λ b m. b && reduced_from (bit_in n xs zs) self all (drop m listed) cs) (sym o) (sym (add-one t))
+        ∙ ap (λ m. only_in (bit_in n xs zs) self c (get_or listed t 0) all && reduced_from (bit_in n xs zs) self all (drop m listed) cs) (sym (add-one t))
+
+    pub looked-yes : {f : ℕ} → place_from on t listed ≡ Some f → true ≡ only_in (bit_in n xs zs) self c (get_or listed t 0) (listed ++ extra) → Looked n xs zs listed extra t c (Some (t + 1))
+    unfolding all
+    looked-yes e o cs = looked-some e cs ∙ ap (λ b. b && reduced_from (bit_in n xs zs) self all (drop (t + 1) listed) cs) (sym o)
+
+    pub looked-no : {f : ℕ} → place_from on t listed ≡ Some f → false ≡ only_in (bit_in n xs zs) self c (get_or listed t 0) (listed ++ extra) → Looked n xs zs listed extra t c None
+    unfolding all
+    looked-no e o cs = looked-some e cs ∙ ap (λ b. b && reduced_from (bit_in n xs zs) self all (drop (t + 1) listed) cs) (sym o)
 
 -- ---- the loop over the order
 
 module _ {R : Type 0} (bit : R → ℕ → Bool) (σ : ℕ → R) (all listed order : List ℕ) (t i : ℕ) where
-  pub test-next : (t' : ℕ) {ok b : Bool} → i < length order → ok ≡ b
-      → ((cs : List ℕ) → reduced_from bit σ all (drop t listed) (get_or order i 0 ∷ cs) ≡ (ok && reduced_from bit σ all (drop t' listed) cs))
-      → reduced_from bit σ all (drop t listed) (drop i order) ≡ (b && reduced_from bit σ all (drop t' listed) (drop (i + 1) order))
-  test-next t' h e f =
+  pub test-next : (after : List ℕ → Bool) → i < length order
+      → ((cs : List ℕ) → reduced_from bit σ all (drop t listed) (get_or order i 0 ∷ cs) ≡ after cs)
+      → reduced_from bit σ all (drop t listed) (drop i order) ≡ after (drop (i + 1) order)
+  test-next after h f =
       ap (reduced_from bit σ all (drop t listed)) (drop-cons order i 0 h) ∙ f (drop (suc i) order)
-      ∙ ap₂ (λ x m. x && reduced_from bit σ all (drop t' listed) (drop m order)) e (sym (add-one i))
+      ∙ ap (λ m. after (drop m order)) (sym (add-one i))
 
   pub test-end : length order ≤ i → true ≡ reduced_from bit σ all (drop t listed) (drop i order)
   unfolding reduced_from

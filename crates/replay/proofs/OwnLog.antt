@@ -12,7 +12,7 @@ use Rattle.pauli.specs.Row.{Row, mul_row, bit_row, same_row}
 use Rattle.encoding.specs.Limits.{words_of}
 use Rattle.encoding.specs.Words.{odd}
 use Rattle.encoding.specs.Set.{Mem, count, rows_held, rows_of, lay, Valid}
-use Rattle.encoding.specs.Refusals.{least, set_lines, left_or}
+use Rattle.encoding.specs.Refusals.{least, set_lines, answer_or, left_or}
 use Rattle.encoding.proofs.Faults.{or_else}
 use Rattle.encoding.proofs.Memory.{Proper, mem-eq, within-limits, count-lay, read-lay, valid-lay}
 use Rattle.encoding.proofs.Sets.{same-words, same-phases, read-proper, set-passes}
@@ -26,15 +26,12 @@ use Rattle.reduction.proofs.Entries.{none-bad}
 use Rattle.reduction.proofs.Theorems as theorems
 use Rattle.reduction.proofs.PauliRows.{rows-laws, rows_tell}
 use Rattle.encoding.specs.Ranks.{by_rank}
-use Rattle.terms.specs.Calls.{up_to, Reduces, ReducesAll}
-use Rattle.terms.specs.declared.Canonicalized.TheVariants.{Done}
+use Rattle.terms.specs.Calls.{up_to, Reduces, ReducesAll, Done}
 use Rattle.replay.proofs.Faults.{check-in-turn}
 use Rattle.terms.proofs.Finished.{Finished, finished, none-refused, proper-replay, proper-set}
 use Rattle.terms.proofs.Whole.{whole_is, whole-names}
-use Rattle.replay.specs.Check.{Task, task, Claim, claim, check_fault, given_or, verdict_on, working_for, Checked}
+use Rattle.replay.specs.Check.{Task, task, Claim, claim, check_fault, given_or, verdict_on, working_for, CheckAnswer, Yes, Checked}
 use Rattle.replay.specs.Demand.{EveryColumn}
-use Rattle.replay.specs.declared.Verdict.{Verdict}
-use Rattle.replay.specs.declared.Verdict.TheVariants.{Yes}
 use Rattle.replay.proofs.Judging.{good-inside}
 use Rattle.replay.proofs.Demand.{yes-exactly}
 
@@ -134,7 +131,8 @@ module _ (T : Task) {M' : Mem} {log' : List ℕ} {k t : ℕ} (F : Finished T.n T
 -- (2) Our own finished logs, claimed with the rows they left, get yes: M' and log' are what `canonicalize` leaves when it answers that it is done with k
 -- entries; the checker starts where it started, and its log is the first 2 × k units of log'. The working rows end as those that `canonicalize` left.
 pub own-log-yes : {T : Task} {log log' : List ℕ} {M' : Mem} {k t : ℕ} → Reduces T.n T.order T.listed T.extra T.start log M' log' (Done k t)
-    → {r : Verdict} {left : Mem} → Checked T (claim (take (2 * k) log') M') r left → (r ≡ Yes) × (left ≡ M')
+    → {r : CheckAnswer} {left : Mem} → Checked T (claim (take (2 * k) log') M') r left → (r ≡ Yes) × (left ≡ M')
+unfolding answer_or
 own-log-yes {T} {log} {log'} {M'} {k} {t} c {r} {left} d =
     let F = finished T.n T.order T.listed T.extra T.start log k t c in
     let yes : r ≡ Yes = d.answer ∙ ap₂ given_or (own-passes T F) (own-accepted T F) in
@@ -147,7 +145,7 @@ whole n M = task n M (up_to (n + n)) (up_to (count M)) []
 
 -- (2) for `canonicalize_all`
 pub own-log-yes-all : {n : ℕ} {M : Mem} {log log' : List ℕ} {M' : Mem} {k t : ℕ} → ReducesAll n M log M' log' (Done k t)
-    → {r : Verdict} {left : Mem} → Checked (whole n M) (claim (take (2 * k) log') M') r left → (r ≡ Yes) × (left ≡ M')
+    → {r : CheckAnswer} {left : Mem} → Checked (whole n M) (claim (take (2 * k) log') M') r left → (r ≡ Yes) × (left ≡ M')
 own-log-yes-all {n} {M} {log} {log'} {M'} {k} {t} c d = own-log-yes {T = whole n M} (whole_is n M log M' log' (Done k t) c) d
 
 -- (3) applies to it: "the order names every column"

@@ -14,7 +14,8 @@ use Rattle.pauli.proofs.Bools.{not_so}
 use Rattle.encoding.specs.Limits.{max_rows, words_of}
 use Rattle.encoding.specs.Words.{odd}
 use Rattle.encoding.specs.Set.{Mem, count, rows_of, lay, Sound}
-use Rattle.encoding.specs.Refusals.{set_lines, left_or}
+use Rattle.std.specs.Prelude.{Ok, Err}
+use Rattle.encoding.specs.Refusals.{set_lines, answer_or, left_or}
 use Rattle.encoding.specs.Refusals as refusals
 use Rattle.encoding.proofs.Faults.{or_else}
 use Rattle.encoding.proofs.Memory.{Proper, count-lay, read-lay, lay-back, valid-of, valid-lay}
@@ -33,18 +34,15 @@ use Rattle.reduction.proofs.Entries.{bad-none, none-bad}
 use Rattle.reduction.proofs.Theorems.{log-replays, entries-good, cut-entries-good}
 use Rattle.encoding.specs.Ranks.{by_rank}
 use Rattle.terms.specs.Refused.{list_lines, reduce_lines, reduce_fault}
-use Rattle.terms.specs.Calls.{Reduces, ReducesAll, up_to}
-use Rattle.terms.specs.declared.Canonicalized.TheVariants.{Done, Full}
+use Rattle.terms.specs.Calls.{Reduces, ReducesAll, up_to, Done, LogFull}
 use Rattle.terms.proofs.Finished.{proper-set, proper-replay, none-refused, finished, full-when, full-leaves}
 use Rattle.encoding.proofs.Ranks.{rank-append}
 use Rattle.terms.proofs.Scans.{asked_of}
 use Rattle.terms.proofs.Whole.{whole_is}
-use Rattle.replay.specs.Check.{Task, Claim, check_fault, odd_log, given, given_or, verdict_on, working_for, Checked}
-use Rattle.replay.specs.Undo.{undo, undo_fault, undone_or, back_by, back_for, Undoes}
-use Rattle.replay.specs.declared.Verdict.{Verdict}
-use Rattle.replay.specs.declared.Verdict.TheVariants.{BadEntry, Differs, NotReduced, Yes, Refused}
-use Rattle.replay.specs.declared.Undone.{Undone}
-use Rattle.replay.specs.declared.Undone.TheVariants as undone
+use Rattle.replay.specs.Check.{Task, Claim, check_fault, odd_log, given, given_or, verdict_on, working_for, CheckAnswer, Checked}
+use Rattle.replay.specs.Undo.{Undone, undo, undo_fault, undone_or, back_by, back_for, Undoes}
+use Rattle.replay.specs.Undo as undone
+use Rattle.replay.specs.declared.Verdict.TheVariants.{BadEntry, Differs, NotReduced, Yes}
 use Rattle.replay.proofs.Judging.{none-large}
 use Rattle.replay.proofs.OwnLog.{log-passes}
 use Rattle.replay.proofs.Faults.{check-none}
@@ -145,24 +143,25 @@ module _ {n N : ℕ} {M : Mem} {order listed extra : List ℕ} (s : Sound n M) (
 -- ---- the checker
 
 -- the answers after which the working rows hold the full replay
-abbrev pub Replayed : Verdict → Type 0
-Replayed (BadEntry i) = ⊥
-Replayed (Differs k) = Unit {0}
-Replayed NotReduced = Unit {0}
-Replayed Yes = Unit {0}
-Replayed (Refused k) = ⊥
+abbrev pub Replayed : CheckAnswer → Type 0
+Replayed (Ok (BadEntry i)) = ⊥
+Replayed (Ok (Differs k)) = Unit {0}
+Replayed (Ok NotReduced) = Unit {0}
+Replayed (Ok Yes) = Unit {0}
+Replayed (Err r) = ⊥
 
-no-bad : (o d : Option ℕ) (b : Bool) → Replayed (given (verdict_by o d b)) → o ≡ none
+no-bad : (o d : Option ℕ) (b : Bool) → Replayed (Ok (given (verdict_by o d b))) → o ≡ none
 unfolding verdict_by
 no-bad none d b h = refl
 no-bad (some i) d b h = absurd h
 
-not-refused : (f : ℕ) (v : checker.Verdict) → Replayed (given_or f v) → (f ≡ 0) × Replayed (given v)
+not-refused : (f : ℕ) (v : checker.Verdict) → Replayed (given_or f v) → (f ≡ 0) × Replayed (Ok (given v))
+unfolding answer_or
 not-refused zero v h = (refl, h)
 not-refused (suc f) v h = absurd h
 
-module _ {T : Task} {L : Claim} {r : Verdict} {left : Mem} (c : Checked T L r left) (h : Replayed r) where
-  none-fits : (check_fault T L ≡ 0) × Replayed (given (verdict_on T L))
+module _ {T : Task} {L : Claim} {r : CheckAnswer} {left : Mem} (c : Checked T L r left) (h : Replayed r) where
+  none-fits : (check_fault T L ≡ 0) × Replayed (Ok (given (verdict_on T L)))
   none-fits = not-refused (check_fault T L) (verdict_on T L) (subst Replayed c.answer h)
 
   none-bad-in : first_bad T.listed T.extra 0 (pairs L.log) ≡ none
@@ -185,7 +184,7 @@ module _ {T : Task} {L : Claim} {r : Verdict} {left : Mem} (c : Checked T L r le
       back_from p.sound p.asked L.log even-log none-bad-in replayed-rows v
 
 -- after `undo` the checker's replay gives the rows back that `undo` was given
-pub undone-checked : {n : ℕ} {M M'' : Mem} {order listed extra log : List ℕ} {C left : Mem} {u : Undone} {r : Verdict} → Sound n M → Undoes n listed extra log M M'' u → u ≡ undone.Done
+pub undone-checked : {n : ℕ} {M M'' : Mem} {order listed extra log : List ℕ} {C left : Mem} {u : Undone} {r : CheckAnswer} → Sound n M → Undoes n listed extra log M M'' u → u ≡ undone.Done
     → Checked (record { n = n; start = M''; order = order; listed = listed; extra = extra }) (record { log = log; rows = C }) r left → Replayed r → left ≡ M
 undone-checked {n} {M} {M''} {order} {listed} {extra} {log} {C} {left} {u} {r} s v d c h =
     let p = (c.passed (none-fits c h).0).of-task in
@@ -221,7 +220,7 @@ module _ (n : ℕ) (order listed extra : List ℕ) (M : Mem) (log : List ℕ) {M
       (F.laid_out ∙ ap (lay n (count M)) (sym (log-replays (bit_row n) (mul_row n) order listed extra (rows_of n M)) ∙ ap (replay (mul_row n) (rows_of n M)) (sym cut))) v
 
   -- "A log cut short by refusal 8 can be walked back from the rows it left."
-  pub full-undone : Reduces n order listed extra M log M' log' (Full (capacity log)) → {M'' : Mem} {u : Undone} → Undoes n listed extra (take (2 * capacity log) log') M' M'' u → (u ≡ undone.Done) × (M'' ≡ M)
+  pub full-undone : Reduces n order listed extra M log M' log' (LogFull (capacity log)) → {M'' : Mem} {u : Undone} → Undoes n listed extra (take (2 * capacity log) log') M' M'' u → (u ≡ undone.Done) × (M'' ≡ M)
   full-undone L v =
       let c = capacity log in
       let whole = (reduce (bit_row n) (mul_row n) order listed extra (rows_of n M)).log in
@@ -242,8 +241,8 @@ module _ (n : ℕ) (M : Mem) (log : List ℕ) {M' : Mem} {log' : List ℕ} (x : 
   pub done-undone-all : (c t : ℕ) → ReducesAll n M log M' log' (Done c t) → {M'' : Mem} {u : Undone} → Undoes n (up_to (count M)) [] (take (2 * c) log') M' M'' u → (u ≡ undone.Done) × (M'' ≡ M)
   done-undone-all c t L v = done-undone n (up_to (n + n)) (up_to (count M)) [] M log x z p c t (whole_is n M log M' log' (Done c t) L) v
 
-  pub full-undone-all : ReducesAll n M log M' log' (Full (capacity log)) → {M'' : Mem} {u : Undone} → Undoes n (up_to (count M)) [] (take (2 * capacity log) log') M' M'' u → (u ≡ undone.Done) × (M'' ≡ M)
-  full-undone-all L v = full-undone n (up_to (n + n)) (up_to (count M)) [] M log x z p (whole_is n M log M' log' (Full (capacity log)) L) v
+  pub full-undone-all : ReducesAll n M log M' log' (LogFull (capacity log)) → {M'' : Mem} {u : Undone} → Undoes n (up_to (count M)) [] (take (2 * capacity log) log') M' M'' u → (u ≡ undone.Done) × (M'' ≡ M)
+  full-undone-all L v = full-undone n (up_to (n + n)) (up_to (count M)) [] M log x z p (whole_is n M log M' log' (LogFull (capacity log)) L) v
 
 -- ---- the contract leaves no choice
 

@@ -9,16 +9,15 @@ use Rattle.pauli.specs.declared.PauliMatrix.TheVariants.{I, Z}
 use Rattle.pauli.specs.Row.{Row, pad_mul, mul_row, bit_of, same_qubits}
 use Rattle.encoding.specs.Words.{word, unpack, join, pack, lay_rows}
 use Rattle.encoding.specs.Set.{Mem, mem_of, word_in, exponent_at, lay_exponents, rows_held, rows_of, list, lay_in}
-use Rattle.encoding.specs.Refusals.{some, some_below, bad_bits, bad_phases}
+use Rattle.encoding.specs.Refusals.{some, some_below, bad_bits, bad_phases, answer_or}
 use Rattle.reduction.specs.Lists.{In, All, has, distinct, every}
 use Rattle.reduction.specs.Replay.{replay, product_of}
 use Rattle.reduction.specs.Log.{pairs}
 use Rattle.reduction.specs.Form.{zeros_in, only_in, reduced_from, reduced}
 use Rattle.reduction.specs.Checker.{first_bad, first_diff, verdict_by, verdict, working, working_by}
 use Rattle.encoding.specs.Ranks.{by_rank, place_in, placed, joined}
-use Rattle.replay.specs.Check.{Task, task, claim}
+use Rattle.replay.specs.Check.{Task, task, claim, Yes}
 use Rattle.replay.specs.Demand.{NoPhaseAtStart, EveryColumn}
-use Rattle.replay.specs.declared.Verdict.TheVariants.{Yes}
 use Rattle.replay.proofs.Examples.{Answered}
 
 abbrev start : Mem
@@ -29,7 +28,7 @@ one-row = task 1 start (0 ∷ 1 ∷ []) (0 ∷ []) []
 
 -- the checker says yes to it, and leaves it as it was
 pub accepted : Answered (record { given = one-row; claimed = claim [] start; says = Yes; left = start })
-unfolding pad_mul mul_row bit_of same_qubits word unpack join pack lay_rows word_in exponent_at lay_exponents rows_held list lay_in by_rank place_in placed joined some some_below bad_bits bad_phases has distinct every replay pairs zeros_in only_in reduced_from reduced first_bad first_diff verdict_by verdict working working_by
+unfolding answer_or pad_mul mul_row bit_of same_qubits word unpack join pack lay_rows word_in exponent_at lay_exponents rows_held list lay_in by_rank place_in placed joined some some_below bad_bits bad_phases has distinct every replay pairs zeros_in only_in reduced_from reduced first_bad first_diff verdict_by verdict working working_by
 accepted = (refl, refl)
 
 pub every-column : EveryColumn one-row

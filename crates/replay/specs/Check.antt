@@ -1,18 +1,19 @@
 -- RULES 7, "The replay checker", and 9, "Refusals": what a check is given, its refusals, its answer, and the working rows at its end. The
 -- verdict itself stands in reduction's specs/Checker.antt. Assumes nothing.
-use Rattle.std.specs.Prelude.{◌≡◌, List, [], ◌∷◌, ◌++◌, ℕ, zero, suc, length}
+use Rattle.std.specs.Prelude.{◌≡◌, List, [], ◌∷◌, ◌++◌, ℕ, length, Result, Ok, Err}
 use Rattle.pauli.specs.Row.{mul_row, bit_row, same_row}
 use Rattle.encoding.specs.Limits.{words_of}
 use Rattle.encoding.specs.Words.{odd}
 use Rattle.encoding.specs.Set.{Mem, count, rows_of, lay, Valid}
-use Rattle.encoding.specs.Refusals.{set_lines, left_or}
+use Rattle.encoding.specs.Refusals.{set_lines, answer_or, left_or}
 use Rattle.reduction.specs.Log.{pairs}
 use Rattle.reduction.specs.Checker.{verdict, working, bad_entry, differs, not_reduced, accepted}
 use Rattle.reduction.specs.Checker as checker
 use Rattle.encoding.specs.Ranks.{TableLine, line, by_rank, joined}
 use Rattle.terms.specs.Refused.{reduce_lines, Reducible}
+use Rattle.encoding.specs.declared.Refusal.{Refusal}
 use Rattle.replay.specs.declared.Verdict.{Verdict}
-use Rattle.replay.specs.declared.Verdict.TheVariants.{BadEntry, Differs, NotReduced, Yes, Refused}
+use Rattle.replay.specs.declared.Verdict.TheVariants as said
 
 -- What was to be reduced: n qubits, the starting rows, the column order, the listed and the extra rows.
 pub record Task : Type 0 where
@@ -72,14 +73,32 @@ pub record Passed (T : Task) (claimed : Mem) : Type 0 where
 
 -- the verdicts by their names in the code
 abbrev pub given : checker.Verdict → Verdict
-given (bad_entry i) = BadEntry i
-given (differs k) = Differs k
-given not_reduced = NotReduced
-given accepted = Yes
+given (bad_entry i) = said.BadEntry i
+given (differs k) = said.Differs k
+given not_reduced = said.NotReduced
+given accepted = said.Yes
 
-abbrev pub given_or : ℕ → checker.Verdict → Verdict
-given_or zero v = given v
-given_or (suc k) v = Refused (suc k)
+-- what a check answers: a verdict, or refused with a number
+abbrev pub CheckAnswer : Type 0
+CheckAnswer = Result Verdict Refusal
+
+abbrev pub BadEntry : ℕ → CheckAnswer
+BadEntry i = Ok (said.BadEntry i)
+
+abbrev pub Differs : ℕ → CheckAnswer
+Differs k = Ok (said.Differs k)
+
+abbrev pub NotReduced : CheckAnswer
+NotReduced = Ok said.NotReduced
+
+abbrev pub Yes : CheckAnswer
+Yes = Ok said.Yes
+
+abbrev pub Refused : ℕ → CheckAnswer
+Refused k = Err (record { 0 = k })
+
+abbrev pub given_or : ℕ → checker.Verdict → CheckAnswer
+given_or f v = answer_or f (given v)
 
 -- the verdict on the claim
 abbrev pub verdict_on : Task → Claim → checker.Verdict
@@ -92,7 +111,7 @@ abbrev pub working_for : Task → Claim → Mem
 working_for T L = lay T.n (count T.start) (working (mul_row T.n) T.listed T.extra (rows_of T.n T.start) (pairs L.log))
 
 -- The call: its answer r, and what it leaves in the memory of the working rows.
-pub record Checked (T : Task) (L : Claim) (r : Verdict) (left : Mem) : Type 0 where
+pub record Checked (T : Task) (L : Claim) (r : CheckAnswer) (left : Mem) : Type 0 where
   pub answer : r ≡ given_or (check_fault T L) (verdict_on T L)
   pub rows : left ≡ left_or (check_fault T L) T.start (working_for T L)
   -- what is not refused is two row sets, an order and lists

@@ -1,6 +1,6 @@
 -- RULES 7.9 to 7.12, "Walking a log back": entries are taken last to first, the target multiplied by the source's inverse, so the source's exponent is taken
 -- negated. The refusals of the call, its answer, and the rows at its end. Assumes nothing.
-use Rattle.std.specs.Prelude.{◌≡◌, List, [], ◌∷◌, ◌++◌, ℕ, zero, suc, ◌-◌, ◌%◌, length}
+use Rattle.std.specs.Prelude.{◌≡◌, List, [], ◌∷◌, ◌++◌, ℕ, zero, suc, ◌-◌, ◌%◌, length, Result, Ok, Err}
 use Rattle.std.proofs.Math.Option.{Option, none, some}
 use Rattle.pauli.specs.Row.{Row, mul_row}
 use Rattle.encoding.specs.Set.{Mem, count, rows_of, lay}
@@ -11,8 +11,8 @@ use Rattle.reduction.specs.Checker.{first_bad}
 use Rattle.encoding.specs.Ranks.{TableLine, by_rank}
 use Rattle.terms.specs.Refused.{reduce_lines}
 use Rattle.replay.specs.Check.{odd_log}
-use Rattle.replay.specs.declared.Undone.{Undone}
-use Rattle.replay.specs.declared.Undone.TheVariants.{BadEntry, Done, Refused}
+use Rattle.replay.specs.declared.NotUndone.{NotUndone}
+use Rattle.replay.specs.declared.NotUndone.TheVariants as said
 
 -- the inverse of a row: the same Paulis, the exponent negated mod 4 (`inverse-right`, `inverse_left` of proofs/Inverse.antt: the matrices are inverse)
 unfoldable pub inverse : Row → Row
@@ -35,6 +35,19 @@ undo_lines n M listed extra log = reduce_lines n M [] listed extra ++ (odd_log (
 
 abbrev pub undo_fault : ℕ → Mem → List ℕ → List ℕ → List ℕ → ℕ
 undo_fault n M listed extra log = by_rank (undo_lines n M listed extra log)
+
+-- what the call answers: done, or not, at a bad entry or refused with a number
+abbrev pub Undone : Type 0
+Undone = Result Unit NotUndone
+
+abbrev pub Done : Undone
+Done = Ok tt
+
+abbrev pub BadEntry : ℕ → Undone
+BadEntry i = Err (said.BadEntry i)
+
+abbrev pub Refused : ℕ → Undone
+Refused k = Err (said.Refused (record { 0 = k }))
 
 -- the first bad entry, by the checker's test, in log order; else done
 abbrev pub undone_by : Option ℕ → Undone

@@ -1,7 +1,8 @@
 -- What the inner functions of the checker and of `undo` ask and leave: marks of the row numbers, the entry test by marks, places, memory after entries. No
 -- definition here is one to be believed: `Checked` and `Undoes` speak of reduction's definitions and of rows alone. Assumes nothing.
-use Rattle.std.specs.Prelude.{◌≡◌, Bool, cond, not, ◌&&◌, ◌||◌, List, [], ◌∷◌, ◌++◌, ℕ, suc, ◌+◌, ◌%◌, eqb, leb, ltb, get_or, drop}
-use Rattle.std.proofs.Math.Option.{Option, none, some}
+use Rattle.std.specs.Prelude.{◌≡◌, Bool, false, cond, not, ◌&&◌, ◌||◌, List, [], ◌∷◌, ◌++◌, ℕ, suc, ◌+◌, ◌%◌, eqb, leb, get_or, drop, Option, Some, None}
+use Rattle.std.proofs.Math.Option as math
+use Rattle.std.proofs.Math.Option.{none, some}
 use Rattle.reduction.specs.Lists.{has}
 use Rattle.reduction.specs.Rule.{Entry}
 use Rattle.reduction.specs.Form.{reduced_from}
@@ -11,8 +12,7 @@ use Rattle.replay.specs.Check.{Task, Claim, given, verdict_on, working_for}
 use Rattle.replay.specs.declared.Verdict.{Verdict}
 use Rattle.reduction.specs.Log.{pairs}
 use Rattle.reduction.specs.Checker.{first_bad}
-use Rattle.replay.specs.Undo.{undone_by, back_for}
-use Rattle.replay.specs.declared.Undone.{Undone}
+use Rattle.replay.specs.Undo.{Undone, undone_by, back_for}
 
 -- the call, where nothing is refused
 pub record Judged (T : Task) (L : Claim) (r : Verdict) (left : Mem) : Type 0 where
@@ -21,9 +21,10 @@ pub record Judged (T : Task) (L : Claim) (r : Verdict) (left : Mem) : Type 0 whe
 
 -- ---- entries
 
--- a place below n, or n for none
-abbrev pub place_of : ℕ → ℕ → Option ℕ
-place_of n r = cond (ltb r n) (some r) none
+-- what a search of the code found, as an option of the definitions
+abbrev pub found : Option ℕ → math.Option ℕ
+found (Some i) = some i
+found None = none
 
 -- each number of the list has got the mark, and no other number's has changed
 abbrev pub Marked : List ℕ → ℕ → List ℕ → List ℕ → Type 0
@@ -34,7 +35,7 @@ unfoldable pub good_by : List ℕ → Entry → Bool
 good_by marks e = not (eqb e.target e.source) && leb 1 (get_or marks e.target 0) && leb 2 (get_or marks e.source 0)
 
 -- the first entry that the test does not pass
-unfoldable pub first_bad_by : (Entry → Bool) → ℕ → List Entry → Option ℕ
+unfoldable pub first_bad_by : (Entry → Bool) → ℕ → List Entry → math.Option ℕ
 first_bad_by f i [] = none
 first_bad_by f i (e ∷ es) = cond (f e) (first_bad_by f (suc i) es) (some i)
 
@@ -52,10 +53,15 @@ self k = k
 abbrev pub off_in : ℕ → List ℕ → List ℕ → ℕ → ℕ → ℕ → Bool
 off_in n xs zs c p k = eqb k p || not (bit_in n xs zs k c)
 
--- column c, looked at with t pivots: whether it may stand so, and the pivots then; what comes after it is tested from there
-abbrev pub Looked : ℕ → List ℕ → List ℕ → List ℕ → List ℕ → ℕ → ℕ → Bool → ℕ → Type 0
-Looked n xs zs listed extra t c ok t' =
-    (cs : List ℕ) → reduced_from (bit_in n xs zs) self (listed ++ extra) (drop t listed) (c ∷ cs) ≡ (ok && reduced_from (bit_in n xs zs) self (listed ++ extra) (drop t' listed) cs)
+-- the test of the columns cs, with the pivots that there are before them; no pivots, no test passed
+abbrev pub tested_from : ℕ → List ℕ → List ℕ → List ℕ → List ℕ → Option ℕ → List ℕ → Bool
+tested_from n xs zs listed extra (Some t) cs = reduced_from (bit_in n xs zs) self (listed ++ extra) (drop t listed) cs
+tested_from n xs zs listed extra None cs = false
+
+-- column c, looked at with t pivots: the pivots then, if it may stand so; what comes after it is tested from there
+abbrev pub Looked : ℕ → List ℕ → List ℕ → List ℕ → List ℕ → ℕ → ℕ → Option ℕ → Type 0
+Looked n xs zs listed extra t c r =
+    (cs : List ℕ) → reduced_from (bit_in n xs zs) self (listed ++ extra) (drop t listed) (c ∷ cs) ≡ tested_from n xs zs listed extra r cs
 
 -- ---- walking back
 

@@ -1,13 +1,14 @@
 // The entries of a log, tested before any is replayed: one pass over the lists, then two look-ups an entry.
-ghost use Rattle.std.specs.Prelude.{◌≡◌, false, ◌/◌, length, get_or};
+ghost use Rattle.std.specs.Prelude.{◌≡◌, false, length, get_or};
 ghost use Rattle.encoding.specs.Limits.{max_rows};
 ghost use Rattle.encoding.specs.Refusals.{some, too_large};
 ghost use Rattle.reduction.specs.Rule.{entry};
 ghost use Rattle.reduction.specs.Log.{pairs};
 ghost use Rattle.reduction.specs.Checker.{first_bad};
-ghost use Rattle.replay.specs.Workers.{Marked, good_by, first_bad_by, place_of};
+ghost use Rattle.replay.specs.Workers.{Marked, good_by, first_bad_by, found};
 
 use encoding::MAX_ROWS;
+use terms::Lists;
 
 // The marks of a row number: in neither list, extra, listed.
 const NONE: u8 = 0;
@@ -21,11 +22,8 @@ fn mark(list: &[u16], value: u8, marks: &mut [u8])
     requires { some (too_large (length marks.old)) list.now ≡ false }
     ensures { Marked list.now value marks.old marks.new }
 {
-    let mut i = 0;
-    while i < list.len() {
-        let k = list[i] as usize;
-        marks[k] = value;
-        i += 1;
+    for &number in list {
+        marks[number as usize] = value;
     }
 }
 
@@ -50,29 +48,26 @@ fn good_entry(marks: &[u8], a: u16, b: u16) -> bool
     other & target & source
 }
 
-// The number of the first bad entry, counted in pairs; the number of entries if there is none. Entry i is the units 2i and 2i + 1.
-fn first_bad_by(marks: &[u8], log: &[u16]) -> usize
-    ensures { place_of (length log.now / 2) result ≡ first_bad_by (good_by marks.now) 0 (pairs log.now) }
+// The number of the first bad entry, counted in pairs. Entry i is the units 2i and 2i + 1.
+fn first_bad_by(marks: &[u8], log: &[u16]) -> Option<usize>
+    ensures { found result ≡ first_bad_by (good_by marks.now) 0 (pairs log.now) }
 {
-    let mut i = 0;
-    while i + i + 1 < log.len() {
+    for i in 0..log.len() / 2 {
         let j = i + i;
         if !good_entry(marks, log[j], log[j + 1]) {
-            return i;
+            return Some(i);
         }
-        i += 1;
     }
-    i
+    None
 }
 
 // The same by the lists.
-pub(crate) fn first_bad(log: &[u16], listed: &[u16], extra: &[u16]) -> usize
-    requires { (some (too_large max_rows) listed.now ≡ false) × (some (too_large max_rows) extra.now ≡ false) }
-    ensures { place_of (length log.now / 2) result
-        ≡ first_bad listed.now extra.now 0 (pairs log.now) }
+pub(crate) fn first_bad(log: &[u16], lists: &Lists<'_>) -> Option<usize>
+    requires { (some (too_large max_rows) lists.now.listed.now ≡ false) × (some (too_large max_rows) lists.now.extra.now ≡ false) }
+    ensures { found result ≡ first_bad lists.now.listed.now lists.now.extra.now 0 (pairs log.now) }
 {
     let mut marks = [NONE; MAX_ROWS];
-    mark(extra, EXTRA, &mut marks);
-    mark(listed, LISTED, &mut marks);
+    mark(lists.extra, EXTRA, &mut marks);
+    mark(lists.listed, LISTED, &mut marks);
     first_bad_by(&marks, log)
 }

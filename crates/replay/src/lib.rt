@@ -2,14 +2,16 @@
 
 #![tactic(auto)]
 
-ghost use Rattle.encoding.specs.Set.{mem_of};
-ghost use Rattle.std.specs.Prelude.{◌≡◌, not, [], ◌∷◌, eqb};
-ghost use Rattle.encoding.specs.Ranks.{by_rank, line};
+ghost use Rattle.std.specs.Prelude.{◌≡◌, [], ◌∷◌, IfOk};
+ghost use Rattle.encoding.specs.Set.{mem_of, set_of};
+ghost use Rattle.encoding.specs.Refusals.{done_or};
+ghost use Rattle.encoding.specs.Ranks.{by_rank};
 ghost use Rattle.replay.specs.Check.{task, claim, odd_log, check_fault, Passed, given, verdict_on, Checked};
 ghost use Rattle.replay.specs.Workers.{Judged};
+ghost use Rattle.replay.specs.declared.NotUndone.TheVariants.{Refused};
 
-use encoding::{pick, set_fault, smaller};
-use terms::reduce_fault;
+use encoding::{Refusal, RowSet, set_fault, smaller};
+use terms::{Lists, reduce_fault};
 
 mod entries;
 mod form;
@@ -17,7 +19,7 @@ mod rows;
 pub mod undo;
 
 // What the checker says of a claim.
-#[derive(Drop)]
+#[derive(Clone, Copy, Debug, PartialEq, Eq)]
 pub enum Verdict {
     // The first bad entry of the log, counted in pairs from 0.
     BadEntry(usize),
@@ -25,51 +27,43 @@ pub enum Verdict {
     Differs(usize),
     NotReduced,
     Yes,
-    Refused(u8),
 }
 
-// What walking a log back answers.
-#[derive(Drop)]
-pub enum Undone {
-    // The first bad entry of the log, counted in pairs from 0.
+// Why a log is not walked back: its first bad entry, counted in pairs from 0, or a refusal.
+#[derive(Clone, Copy, Debug, PartialEq, Eq)]
+pub enum NotUndone {
     BadEntry(usize),
-    Done,
-    Refused(u8),
+    Refused(Refusal),
 }
 
-// What was found before the log is looked at, or else 9 for a log of odd length, or 0.
-pub(crate) fn log_fault(earlier: u8, units: usize) -> u8
-    ensures { result ≡ by_rank (line earlier (not (eqb earlier 0)) ∷ odd_log units ∷ []) }
+impl From<Refusal> for NotUndone {
+    ghost from_gives = { λ r e. e ≡ Refused r };
+
+    fn from(r: Refusal) -> NotUndone {
+        NotUndone::Refused(r)
+    }
+}
+
+// Whether a log of so many units is refused: one of odd length is.
+pub(crate) fn log_fault(units: usize) -> Result<(), Refusal>
+    ensures { result ≡ done_or (by_rank (odd_log units ∷ [])) }
 {
-    let found = earlier != 0;
-    let odd = units % 2 == 1;
-    pick(found, earlier, pick(odd, 9, 0))
+    if units % 2 == 1 {
+        return Err(Refusal::ODD_LOG);
+    }
+    Ok(())
 }
 
 // The verdict on rows that were replayed: the first that differs from what is claimed, else whether they are in reduced form.
-fn compare(
-    n: usize,
-    m: usize,
-    x: &[u64],
-    z: &[u64],
-    phases: &[u64],
-    order: &[u16],
-    listed: &[u16],
-    extra: &[u16],
-    cx: &[u64],
-    cz: &[u64],
-    cphases: &[u64],
-) -> Verdict
-    requires { Passed (task n (mem_of m x.now z.now phases.now) order.now listed.now extra.now)
-        (mem_of m cx.now cz.now cphases.now) }
-    ensures { result ≡ given (verdict_on (task n (mem_of m x.now z.now phases.now) order.now listed.now extra.now)
-        (claim [] (mem_of m cx.now cz.now cphases.now))) }
+fn compare(set: &RowSet<'_>, lists: &Lists<'_>, claimed: &RowSet<'_>) -> Verdict
+    requires { Passed (task set.now.n (set_of set.now) lists.now.order.now lists.now.listed.now lists.now.extra.now) (set_of claimed.now) }
+    ensures { result ≡ given (verdict_on (task set.now.n (set_of set.now) lists.now.order.now lists.now.listed.now lists.now.extra.now)
+        (claim [] (set_of claimed.now))) }
 {
-    let d = rows::first_diff(n, m, x, z, phases, cx, cz, cphases);
-    if d < m {
+    if let Some(d) = rows::first_diff(set, claimed) {
         return Verdict::Differs(d);
     }
-    if form::is_reduced(n, x, z, order, listed, extra) {
+    if form::is_reduced(set.n, set.x, set.z, lists) {
         return Verdict::Yes;
     }
     Verdict::NotReduced
@@ -82,78 +76,73 @@ fn judge(
     x: &mut [u64],
     z: &mut [u64],
     phases: &mut [u64],
-    order: &[u16],
-    listed: &[u16],
-    extra: &[u16],
+    lists: &Lists<'_>,
     log: &[u16],
-    cx: &[u64],
-    cz: &[u64],
-    cphases: &[u64],
+    claimed: &RowSet<'_>,
 ) -> Verdict
-    requires { Passed (task n (mem_of m x.old z.old phases.old) order.now listed.now extra.now)
-        (mem_of m cx.now cz.now cphases.now) }
-    ensures { Judged (task n (mem_of m x.old z.old phases.old) order.now listed.now extra.now)
-        (claim log.now (mem_of m cx.now cz.now cphases.now)) result (mem_of m x.new z.new phases.new) }
+    requires { Passed (task n (mem_of m x.old z.old phases.old) lists.now.order.now lists.now.listed.now lists.now.extra.now) (set_of claimed.now) }
+    ensures { Judged (task n (mem_of m x.old z.old phases.old) lists.now.order.now lists.now.listed.now lists.now.extra.now)
+        (claim log.now (set_of claimed.now)) result (mem_of m x.new z.new phases.new) }
 {
-    let h = log.len() / 2;
-    let b = entries::first_bad(log, listed, extra);
-    if b < h {
+    if let Some(b) = entries::first_bad(log, lists) {
         return Verdict::BadEntry(b);
     }
-    rows::redo(n, m, x, z, phases, log, h);
-    compare(n, m, x, z, phases, order, listed, extra, cx, cz, cphases)
+    rows::redo(n, m, x, z, phases, log, log.len() / 2);
+    compare(&RowSet { n, m, x, z, phases }, lists, claimed)
 }
 
-// The first line of the table, by rank, that fits what a check is given, or 0.
+// Whether what a check is given is refused: by the parts, then by the log. The claimed rows are lent with the n and m of the set.
 pub fn check_fault(
-    n: usize,
-    m: usize,
-    x: &[u64],
-    z: &[u64],
-    phases: &[u64],
-    order: &[u16],
-    listed: &[u16],
-    extra: &[u16],
+    set: &RowSet<'_>,
+    lists: &Lists<'_>,
     log: &[u16],
     cx: &[u64],
     cz: &[u64],
     cphases: &[u64],
-) -> u8
-    ensures value { result ≡ check_fault (task n (mem_of m x.now z.now phases.now) order.now listed.now extra.now)
-        (claim log.now (mem_of m cx.now cz.now cphases.now)) }
-    ensures passed { result ≡ 0 → Passed (task n (mem_of m x.now z.now phases.now) order.now listed.now extra.now)
-        (mem_of m cx.now cz.now cphases.now) }
+) -> Result<(), Refusal>
+    ensures value { result ≡ done_or (check_fault (task set.now.n (set_of set.now) lists.now.order.now lists.now.listed.now lists.now.extra.now)
+        (claim log.now (mem_of set.now.m cx.now cz.now cphases.now))) }
+    ensures passed { IfOk result (λ _. Passed (task set.now.n (set_of set.now) lists.now.order.now lists.now.listed.now lists.now.extra.now)
+        (mem_of set.now.m cx.now cz.now cphases.now)) }
 {
-    let a = reduce_fault(n, m, x, z, phases, order, listed, extra);
-    let b = set_fault(n, m, cx, cz, cphases);
-    log_fault(smaller(a, b), log.len())
+    let claimed = RowSet {
+        n: set.n,
+        m: set.m,
+        x: cx,
+        z: cz,
+        phases: cphases,
+    };
+    let task = reduce_fault(set, lists);
+    smaller(task, set_fault(&claimed))?;
+    log_fault(log.len())
 }
 
 // The replay checker. x, z and phases come in as the starting rows and end as the replayed ones; at a refusal or a bad entry they are unchanged.
+// Both sets have the one n and m, so that they come slice by slice.
+#[tactic(auto, using(encoding::proofs::Faults::refusing, encoding::proofs::Faults::passing, encoding::proofs::Faults::kept, encoding::proofs::Faults::made, crate::proofs::Faults::tells))]
 pub fn check(
     n: usize,
     m: usize,
     x: &mut [u64],
     z: &mut [u64],
     phases: &mut [u64],
-    order: &[u16],
-    listed: &[u16],
-    extra: &[u16],
+    lists: &Lists<'_>,
     log: &[u16],
     cx: &[u64],
     cz: &[u64],
     cphases: &[u64],
-) -> Verdict
-    ensures { Checked (task n (mem_of m x.old z.old phases.old) order.now listed.now extra.now)
+) -> Result<Verdict, Refusal>
+    ensures { Checked (task n (mem_of m x.old z.old phases.old) lists.now.order.now lists.now.listed.now lists.now.extra.now)
         (claim log.now (mem_of m cx.now cz.now cphases.now)) result (mem_of m x.new z.new phases.new) }
 {
-    let f = check_fault(
-        n, m, x, z, phases, order, listed, extra, log, cx, cz, cphases,
-    );
-    if f != 0 {
-        return Verdict::Refused(f);
-    }
-    judge(
-        n, m, x, z, phases, order, listed, extra, log, cx, cz, cphases,
-    )
+    let claimed = RowSet {
+        n,
+        m,
+        x: cx,
+        z: cz,
+        phases: cphases,
+    };
+    let set = RowSet { n, m, x, z, phases };
+    check_fault(&set, lists, log, cx, cz, cphases)?;
+    Ok(judge(n, m, x, z, phases, lists, log, &claimed))
 }

@@ -2,11 +2,12 @@
 ghost use Rattle.std.specs.Prelude.{◌≡◌, true, false, ◌+◌, ◌*◌, ◌/◌, ◌≤◌, ◌<◌, length, take};
 ghost use Rattle.encoding.specs.Limits.{words_of};
 ghost use Rattle.pauli.specs.Row.{same_row};
-ghost use Rattle.encoding.specs.Set.{row, rows_of, Valid, mem_of};
+ghost use Rattle.encoding.specs.Set.{row, rows_of, Valid, mem_of, set_of};
 ghost use Rattle.reduction.specs.Log.{pairs};
 ghost use Rattle.reduction.specs.Checker.{first_diff};
-ghost use Rattle.replay.specs.Workers.{redone, place_of};
+ghost use Rattle.replay.specs.Workers.{redone, found};
 
+use encoding::RowSet;
 use pauli::RowNumber;
 use terms::rows::imul_unchecked;
 
@@ -24,13 +25,11 @@ pub(crate) fn redo(
     ensures { mem_of m x.new z.new phases.new
         ≡ redone n (take k (pairs log.now)) (mem_of m x.old z.old phases.old) }
 {
-    let mut i = 0;
-    while i < k {
+    for i in 0..k {
         let j = i + i;
         let a = RowNumber(log[j] as usize);
         let b = RowNumber(log[j + 1] as usize);
         imul_unchecked(n, m, x, z, phases, a, b);
-        i += 1;
     }
 }
 
@@ -41,69 +40,41 @@ fn same_words(w: usize, x: &[u64], y: &[u64], k: usize) -> bool
     ensures no { result ≡ false → row w k x.now ≡ row w k y.now → ⊥ }
 {
     let s = k * w;
-    let mut i = 0;
-    while i < w {
-        let j = s + i;
-        if x[j] != y[j] {
-            return false;
-        }
-        i += 1;
-    }
-    true
+    x[s..s + w] == y[s..s + w]
 }
 
-// Whether rows k of two sets are the same, in bits and phase.
-fn same_row(
-    n: usize,
-    m: usize,
-    x: &[u64],
-    z: &[u64],
-    phases: &[u64],
-    cx: &[u64],
-    cz: &[u64],
-    cphases: &[u64],
-    k: usize,
-) -> bool
-    requires valid { Valid n (words_of n) (mem_of m x.now z.now phases.now) }
-    requires valid_2 { Valid n (words_of n) (mem_of m cx.now cz.now cphases.now) }
-    requires k_lt_m { k < m }
-    ensures { result ≡ same_row n (rows_of n (mem_of m x.now z.now phases.now) k)
-        (rows_of n (mem_of m cx.now cz.now cphases.now) k) }
+// Whether rows k of two sets of the one n and m are the same, in bits and phase.
+fn same_row(set: &RowSet<'_>, claimed: &RowSet<'_>, k: usize) -> bool
+    requires valid { Valid set.now.n (words_of set.now.n) (set_of set.now) }
+    requires valid_2 { Valid set.now.n (words_of set.now.n) (set_of claimed.now) }
+    requires one_m { claimed.now.m ≡ set.now.m }
+    requires k_lt_m { k < set.now.m }
+    ensures { result ≡ same_row set.now.n (rows_of set.now.n (set_of set.now) k) (rows_of set.now.n (set_of claimed.now) k) }
 {
-    let w = encoding::words(n);
-    if !same_words(w, x, cx, k) {
+    let w = encoding::words(set.n);
+    if !same_words(w, set.x, claimed.x, k) {
         return false;
     }
-    if !same_words(w, z, cz, k) {
+    if !same_words(w, set.z, claimed.z, k) {
         return false;
     }
-    let a = encoding::get_exponent(phases, RowNumber(k));
-    let b = encoding::get_exponent(cphases, RowNumber(k));
+    let a = encoding::get_exponent(set.phases, RowNumber(k));
+    let b = encoding::get_exponent(claimed.phases, RowNumber(k));
     a.0 == b.0
 }
 
-// The first row that differs; the number of rows if there is none.
-pub(crate) fn first_diff(
-    n: usize,
-    m: usize,
-    x: &[u64],
-    z: &[u64],
-    phases: &[u64],
-    cx: &[u64],
-    cz: &[u64],
-    cphases: &[u64],
-) -> usize
-    requires valid { Valid n (words_of n) (mem_of m x.now z.now phases.now) }
-    requires valid_2 { Valid n (words_of n) (mem_of m cx.now cz.now cphases.now) }
-    ensures { place_of m result ≡ first_diff (same_row n)
-        (rows_of n (mem_of m x.now z.now phases.now)) (rows_of n (mem_of m cx.now cz.now cphases.now)) 0 m }
+// The first row that differs.
+pub(crate) fn first_diff(set: &RowSet<'_>, claimed: &RowSet<'_>) -> Option<usize>
+    requires valid { Valid set.now.n (words_of set.now.n) (set_of set.now) }
+    requires valid_2 { Valid set.now.n (words_of set.now.n) (set_of claimed.now) }
+    requires one_m { claimed.now.m ≡ set.now.m }
+    ensures { found result ≡ first_diff (same_row set.now.n)
+        (rows_of set.now.n (set_of set.now)) (rows_of set.now.n (set_of claimed.now)) 0 set.now.m }
 {
-    let mut i = 0;
-    while i < m {
-        if !same_row(n, m, x, z, phases, cx, cz, cphases, i) {
-            return i;
+    for i in 0..set.m {
+        if !same_row(set, claimed, i) {
+            return Some(i);
         }
-        i += 1;
     }
-    i
+    None
 }

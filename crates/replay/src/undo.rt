@@ -1,17 +1,19 @@
 // Walking a log back: the entries are tested as the checker tests them, and then taken back, the last one first.
-ghost use Rattle.encoding.specs.Set.{mem_of};
-ghost use Rattle.std.specs.Prelude.{◌≡◌, [], ◌+◌, ◌<◌};
+ghost use Rattle.std.specs.Prelude.{◌≡◌, [], IfOk};
+ghost use Rattle.encoding.specs.Set.{mem_of, set_of};
+ghost use Rattle.encoding.specs.Refusals.{done_or};
 ghost use Rattle.reduction.specs.Log.{pairs};
 ghost use Rattle.terms.specs.Refused.{Reducible};
-ghost use Rattle.replay.specs.Undo.{Undoes};
+ghost use Rattle.replay.specs.Undo.{undo_fault, Undoes};
 ghost use Rattle.replay.specs.Workers.{turned, mul_back_in, mem_taken_back, Walked};
 
 use crate::entries::first_bad;
-use crate::{Undone, log_fault};
+use crate::{NotUndone, log_fault};
+use encoding::{Refusal, RowSet};
 use pauli::RowNumber;
 use products::add_signs;
-use terms::reduce_fault;
 use terms::rows::imul_unchecked;
+use terms::{Lists, reduce_fault};
 
 // The exponent of row a gets twice that of row b: what lies between the product by row b and that by its inverse.
 fn turn(phases: &mut [u64], a: RowNumber, b: RowNumber)
@@ -39,28 +41,16 @@ fn imul_inverse(
     turn(phases, a, b);
 }
 
-// The entry to be taken back when i of h entries are: the last one of the others.
-fn next_back(h: usize, i: usize) -> usize
-    requires { i < h }
-    ensures { result + 1 + i ≡ h }
-{
-    h - i - 1
-}
-
 // All entries are taken back, the last one first.
 fn take_back(n: usize, m: usize, x: &mut [u64], z: &mut [u64], phases: &mut [u64], log: &[u16])
     ensures { mem_of m x.new z.new phases.new
         ≡ mem_taken_back n (pairs log.now) (mem_of m x.old z.old phases.old) }
 {
-    let h = log.len() / 2;
-    let mut i = 0;
-    while i < h {
-        let k = next_back(h, i);
+    for k in (0..log.len() / 2).rev() {
         let j = k + k;
         let a = RowNumber(log[j] as usize);
         let b = RowNumber(log[j + 1] as usize);
         imul_inverse(n, m, x, z, phases, a, b);
-        i += 1;
     }
 }
 
@@ -71,40 +61,46 @@ fn walk_back(
     x: &mut [u64],
     z: &mut [u64],
     phases: &mut [u64],
-    listed: &[u16],
-    extra: &[u16],
+    lists: &Lists<'_>,
     log: &[u16],
-) -> Undone
-    requires { Reducible n [] listed.now extra.now (mem_of m x.old z.old phases.old) }
-    ensures { Walked n listed.now extra.now log.now
+) -> Result<(), NotUndone>
+    requires { Reducible n [] lists.now.listed.now lists.now.extra.now (mem_of m x.old z.old phases.old) }
+    ensures { Walked n lists.now.listed.now lists.now.extra.now log.now
         (mem_of m x.old z.old phases.old) (mem_of m x.new z.new phases.new) result }
 {
-    let b = first_bad(log, listed, extra);
-    if b < log.len() / 2 {
-        return Undone::BadEntry(b);
+    if let Some(b) = first_bad(log, lists) {
+        return Err(NotUndone::BadEntry(b));
     }
     take_back(n, m, x, z, phases, log);
-    Undone::Done
+    Ok(())
 }
 
-// Rows that a log led to become those that it started from; at a refusal or a bad entry they are unchanged.
+// Whether what is to be walked back is refused: what a check has, of an order that names no column, and then the log.
+fn undo_fault(set: &RowSet<'_>, lists: &Lists<'_>, log: &[u16]) -> Result<(), Refusal>
+    ensures value { result ≡ done_or (undo_fault set.now.n (set_of set.now) lists.now.listed.now lists.now.extra.now log.now) }
+    ensures passed { IfOk result (λ _. Reducible set.now.n [] lists.now.listed.now lists.now.extra.now (set_of set.now)) }
+{
+    let none = Lists {
+        order: &[],
+        ..*lists
+    };
+    reduce_fault(set, &none)?;
+    log_fault(log.len())
+}
+
+// Rows that a log led to become those that it started from; at a refusal or a bad entry they are unchanged. The order of the columns is not read.
 pub fn undo(
     n: usize,
     m: usize,
     x: &mut [u64],
     z: &mut [u64],
     phases: &mut [u64],
-    listed: &[u16],
-    extra: &[u16],
+    lists: &Lists<'_>,
     log: &[u16],
-) -> Undone
-    ensures { Undoes n listed.now extra.now log.now
+) -> Result<(), NotUndone>
+    ensures { Undoes n lists.now.listed.now lists.now.extra.now log.now
         (mem_of m x.old z.old phases.old) (mem_of m x.new z.new phases.new) result }
 {
-    let f = reduce_fault(n, m, x, z, phases, &log[0..0], listed, extra);
-    let g = log_fault(f, log.len());
-    if g != 0 {
-        return Undone::Refused(g);
-    }
-    walk_back(n, m, x, z, phases, listed, extra, log)
+    undo_fault(&RowSet { n, m, x, z, phases }, lists, log)?;
+    walk_back(n, m, x, z, phases, lists, log)
 }

@@ -1,15 +1,14 @@
 -- Words that hold the Paulis read so far: none at first, one more with each letter; at the end the first words of them are the row's. The row is put into
 -- its set: its words are what its Paulis pack to, and every other row's words are as they were.
-use Rattle.row_text.proofs.Kit.{◌≡◌, refl, sym, ap, ap₂, ◌∙◌, subst, Bool, true, false, cond, false≢true, List, [], ◌∷◌, ℕ, zero, suc, ◌+◌, ◌*◌, ◌-◌, ◌<◌, ◌≤◌, arith, ℕ_discrete, eq-eqb, ne_eqb, length, get_or, take, drop, set, length-set, ext_get_or, get_or-take, get_or-set_same, get_or-set_other, Pauli, I, has_x, has_z, by}
+use Rattle.row_text.proofs.Kit.{◌≡◌, refl, sym, ap, ap₂, ◌∙◌, subst, Bool, true, false, cond, false≢true, List, [], ◌∷◌, ℕ, zero, suc, ◌+◌, ◌*◌, ◌-◌, ◌<◌, ◌≤◌, arith, ℕ_discrete, eq-eqb, ne_eqb, length, get_or, take, drop, set, length-set, Pauli, I, has_x, has_z, by}
 use lib.ListN.{replicate}
-use lib.Seq.{length-take-le}
 use borrow.Rule.Slice.PartMut.{put_mid, put_same}
 use Rattle.pauli.specs.Row.{Row}
 use Rattle.encoding.specs.Limits.{max_qubits, max_words, words_of}
 use Rattle.encoding.specs.Words.{qubits, join, pack}
 use Rattle.encoding.specs.Set.{part, row, Mem, mem_of, count, exponent_at, rows_held, lay_in, within, QubitSet, Packed, Valid}
-use Rattle.encoding.specs.Refusals.{done_or, left_or}
-use Rattle.encoding.specs.declared.Answer.TheVariants.{Done, Refused}
+use Rattle.encoding.specs.Refusals.{answer_or, done_or, left_or}
+use Rattle.std.specs.Prelude.{Ok, Err}
 use Rattle.encoding.proofs.Padding.{pack-cut}
 use Rattle.encoding.proofs.Reading.{length-pack, qubits-pack}
 use Rattle.encoding.proofs.Memory.{clean_of}
@@ -20,14 +19,13 @@ use Rattle.products.proofs.PartLaws.{row_other}
 use Rattle.cmpnt_list.specs.Workers.{RowAt}
 use Rattle.cmpnt_list.proofs.OneQubit.{set-packed}
 use Rattle.cmpnt_list.proofs.Views.{put-row, put_rest}
-use Rattle.row_text.specs.Text.{text_of, is_text, row_of}
+use Rattle.row_text.specs.Text.{spaced, text_of, is_text, row_of}
 use Rattle.row_text.specs.Calls.{with_row}
 use Rattle.row_text.specs.Workers.{no_text_number}
-use Rattle.encoding.proofs.Faults.{or_else}
-use Rattle.row_text.specs.Workers.{letter_of, left, NextPauli, blank, Tells, a-row, no_row, Holding, LetterSet, Scanned, RowParsed}
+use Rattle.row_text.specs.Workers.{left, Found, blank, Tells, a-row, no_row, Holding, PauliSet, Scanned, RowParsed}
 use Rattle.row_text.proofs.Rows.{text-read, read-text, row-long, no_text}
 use Rattle.row_text.proofs.Spelling.{one-row}
-use Rattle.row_text.proofs.Scanning.{Scanning, scanning, scan-long, scan-more, scan-all, scan-stops, goes_on}
+use Rattle.row_text.proofs.Scanning.{Scanning, scanning, scan-long, scan-more, scan-all, scan-stops}
 
 -- ---- no Pauli yet
 
@@ -60,7 +58,7 @@ kept-z : {q : ℕ} {p : Pauli} {xs zs xs' zs' : List ℕ} → QubitSet q p xs zs
 kept-z {q} {p} {xs} {zs} s =
     ap length s.z-words ∙ by (λ (l : List ℕ). length l ≡ length zs) (within q xs zs) (λ e. length-set zs _ _) (λ e. refl)
 
-module _ {n : ℕ} (few : n ≤ max_qubits) {ps : List Pauli} (long : length ps ≡ n) {xs zs xs' zs' : List ℕ} (h : Holding max_words ps xs zs) {v c : ℕ} (low : v < n) (s : LetterSet v c xs zs xs' zs') where
+module _ {n : ℕ} (few : n ≤ max_qubits) {ps : List Pauli} (long : length ps ≡ n) {xs zs xs' zs' : List ℕ} (h : Holding max_words ps xs zs) {v : ℕ} {p : Pauli} (low : v < n) (s : PauliSet v p xs zs xs' zs') where
   wide : n ≤ max_words * 64
   wide = omega arith
 
@@ -70,13 +68,13 @@ module _ {n : ℕ} (few : n ≤ max_qubits) {ps : List Pauli} (long : length ps 
   packed : Packed n max_words xs zs
   packed = record { x-is = h.x-is ∙ ap (pack has_x max_words) (sym held); z-is = h.z-is ∙ ap (pack has_z max_words) (sym held) }
 
-  pub holding-more : Holding max_words (set ps v (letter_of c)) xs' zs'
+  pub holding-more : Holding max_words (set ps v p) xs' zs'
   holding-more =
       let l = holding-long h in
       let k =
-      set-packed n max_words v (letter_of c) wide low l.0 l.1 (kept-x s.set ∙ l.0) (kept-z s.set ∙ l.1)
+      set-packed n max_words v p wide low l.0 l.1 (kept-x s.set ∙ l.0) (kept-z s.set ∙ l.1)
       (clean_of n max_words (ap length held ∙ long) wide packed) s.set s.x-fit s.z-fit in
-      let e : set (qubits n xs zs) v (letter_of c) ≡ set ps v (letter_of c) = ap (λ (l : List Pauli). set l v (letter_of c)) held in
+      let e : set (qubits n xs zs) v p ≡ set ps v p = ap (λ (l : List Pauli). set l v p) held in
       record { x-is = k.0 ∙ ap (pack has_x max_words) e; z-is = k.1 ∙ ap (pack has_z max_words) e }
 
 -- ---- the loop of the reader
@@ -89,49 +87,22 @@ pub record Scan (n : ℕ) (s xs zs : List ℕ) (q at : ℕ) : Type 0 where
 pub scan-none : (n : ℕ) (s : List ℕ) {xs zs : List ℕ} → Holding max_words (blank n []) xs zs → Scan n s xs zs 0 0
 scan-none n s h = record { row = blank n []; scanning = scanning n s; holds = h }
 
-pub scan-one : {n : ℕ} {s xs zs xs' zs' : List ℕ} {q at : ℕ} {ok : Bool} {c v next : ℕ} → n ≤ max_qubits → Scan n s xs zs q at → at < length s
-    → NextPauli n q (left at s) s ok c v next → ok ≡ true → LetterSet v c xs zs xs' zs' → Scan n s xs' zs' (v + 1) next
-scan-one {c = c} {v = v} few r h p e l =
-    let f = p.yes e in
+pub scan-one : {n : ℕ} {s xs zs xs' zs' : List ℕ} {q at : ℕ} {p : Pauli} {v next : ℕ} → n ≤ max_qubits → Scan n s xs zs q at → at < length s
+    → Found n q (left at s) p v (drop next s) → next ≤ length s → PauliSet v p xs zs xs' zs' → Scan n s xs' zs' (v + 1) next
+scan-one {p = p} {v = v} few r h f k l =
     record {
-      row = set r.row v (letter_of c);
-      scanning = scan-more few r.scanning h p.within f;
+      row = set r.row v p;
+      scanning = scan-more few r.scanning h k f;
       holds = holding-more few (scan-long r.scanning) r.holds f.high l;
     }
 
 pub scan-yes : {n : ℕ} {s xs zs : List ℕ} {q at : ℕ} → Scan n s xs zs q at → length s ≤ at → Scanned n s xs zs true
 scan-yes r h = record { row = r.row; tells = scan-all r.scanning h; holds = r.holds }
 
-pub scan-no : {n : ℕ} {s xs zs : List ℕ} {q at : ℕ} {ok : Bool} {c v next : ℕ} → Scan n s xs zs q at → at < length s → NextPauli n q (left at s) s ok c v next → ok ≡ false → Scanned n s xs zs false
-scan-no r h p e = record { row = r.row; tells = scan-stops r.scanning h (p.no e); holds = r.holds }
-
-pub scan-place : {n : ℕ} {s xs zs : List ℕ} {q at : ℕ} {ok : Bool} {c v next : ℕ} → Scan n s xs zs q at → at < length s → NextPauli n q (left at s) s ok c v next → ok ≡ true → at < next
-scan-place {s = s} {at = at} {next = next} r h p e = goes_on s at next h p.within (p.yes e)
+pub scan-no : {n : ℕ} {s xs zs : List ℕ} {q at : ℕ} → Scan n s xs zs q at → at < length s → ((rs : List Pauli) → q + length rs ≡ n → spaced q rs ≡ left at s → left at s ≡ []) → Scanned n s xs zs false
+scan-no r h f = record { row = r.row; tells = scan-stops r.scanning h f; holds = r.holds }
 
 -- ---- the first words
-
-pub record Copying (o s p : List ℕ) (i : ℕ) : Type 0 where
-  pub same : length p ≡ length o
-  pub there : (k : ℕ) → k < i → get_or p k 0 ≡ get_or s k 0
-
-pub copying : (o s : List ℕ) → Copying o s o 0
-copying o s = record { same = refl; there = λ k h. absurd (omega arith) }
-
-pub copied_more : {o s p : List ℕ} {i : ℕ} → Copying o s p i → i < length o → Copying o s (set p i (get_or s i 0)) (i + 1)
-copied_more {o} {s} {p} {i} r h = record { same = length-set p i (get_or s i 0) ∙ r.same; there = λ k l. go k l (ℕ_discrete k i) }
-  where
-    go : (k : ℕ) → k < i + 1 → Dec (k ≡ i) → get_or (set p i (get_or s i 0)) k 0 ≡ get_or s k 0
-    go k l (yes e) =
-        ap (λ (j : ℕ). get_or (set p i (get_or s i 0)) j 0) e ∙ (get_or-set_same p i (get_or s i 0) 0 (omega (arith, r.same)) ∙ ap (λ (j : ℕ). get_or s j 0) (sym e))
-    go k l (no ne) = get_or-set_other p i k (get_or s i 0) 0 ne ∙ r.there k (below k l ne)
-      where
-        below : (k : ℕ) → k < i + 1 → (k ≡ i → ⊥) → k < i
-        below k l ne = omega arith
-
-pub copied : {o s p : List ℕ} {i : ℕ} → Copying o s p i → length o ≤ i → length o ≤ length s → p ≡ take (length o) s
-copied {o} {s} {p} {i} r h k =
-    ext_get_or 0 p (take (length o) s) (r.same ∙ sym (length-take-le (length o) s k))
-    (λ j l. r.there j (omega (arith, r.same)) ∙ sym (get_or-take (length o) s j 0 (omega (arith, r.same))))
 
 take-pack : (f : Pauli → Bool) (w v : ℕ) (ps : List Pauli) → w ≤ v → take w (pack f v ps) ≡ pack f w ps
 unfolding pack
@@ -226,25 +197,17 @@ row-parsed n {M} v r s {a} {e} at {px} {pz} {ok} kx kz p = go ok p.x-part p.z-pa
 
 -- ---- the call
 
-pub parse-refused : (n : ℕ) (M new : Mem) (t : List ℕ) {f g o : ℕ} → o ≡ or_else g (no_text_number n t) → f ≡ g → (f ≡ 0 → ⊥)
-    → (Refused f ≡ done_or o) × (M ≡ left_or o M new)
-parse-refused n M new t {f} {g} {o} i e ne = subst (λ (k : ℕ). (Refused f ≡ done_or k) × (M ≡ left_or k M new)) (ap (λ (k : ℕ). or_else k (no_text_number n t)) e ∙ sym i) (go f ne)
-  where
-    go : (k : ℕ) → (k ≡ 0 → ⊥) → (Refused k ≡ done_or (or_else k (no_text_number n t))) × (M ≡ left_or (or_else k (no_text_number n t)) M new)
-    go zero h = absurd (h refl)
-    go (suc k) h = (refl, refl)
-
 -- no line above fits: taken, or 13
-pub parse-taken : (n : ℕ) (M new : Mem) (t : List ℕ) {M' : Mem} {g o : ℕ} {ok : Bool} → o ≡ or_else g (no_text_number n t) → 0 ≡ g → ok ≡ true → ok ≡ is_text n t → M' ≡ cond ok new M
-    → (Done ≡ done_or o) × (M' ≡ left_or o M new)
-parse-taken n M new t {M'} {g} {o} {ok} i z e told rows =
+pub parse-taken : (n : ℕ) (M new : Mem) (t : List ℕ) {M' : Mem} {ok : Bool} → ok ≡ true → ok ≡ is_text n t → M' ≡ cond ok new M
+    → (Ok tt ≡ done_or (no_text_number n t)) × (M' ≡ left_or (no_text_number n t) M new)
+unfolding answer_or
+parse-taken n M new t {M'} {ok} e told rows =
     let y : no_text_number n t ≡ 0 = ap (λ (b : Bool). cond b 0 13) (sym told ∙ e) in
-    let y₀ : o ≡ 0 = i ∙ ap (λ (k : ℕ). or_else k (no_text_number n t)) (sym z) ∙ y in
-    (ap done_or (sym y₀), rows ∙ (ap (λ (b : Bool). cond b new M) e ∙ ap (λ (k : ℕ). left_or k M new) (sym y₀)))
+    (ap done_or (sym y), rows ∙ (ap (λ (b : Bool). cond b new M) e ∙ ap (λ (k : ℕ). left_or k M new) (sym y)))
 
-pub parse-no-text : (n : ℕ) (M new : Mem) (t : List ℕ) {M' : Mem} {g o : ℕ} {ok : Bool} → o ≡ or_else g (no_text_number n t) → 0 ≡ g → ok ≡ false → ok ≡ is_text n t → M' ≡ cond ok new M
-    → (Refused 13 ≡ done_or o) × (M' ≡ left_or o M new)
-parse-no-text n M new t {M'} {g} {o} {ok} i z e told rows =
+pub parse-no-text : (n : ℕ) (M new : Mem) (t : List ℕ) {M' : Mem} {ok : Bool} → ok ≡ false → ok ≡ is_text n t → M' ≡ cond ok new M
+    → (Err (record { 0 = 13 }) ≡ done_or (no_text_number n t)) × (M' ≡ left_or (no_text_number n t) M new)
+unfolding answer_or
+parse-no-text n M new t {M'} {ok} e told rows =
     let y : no_text_number n t ≡ 13 = ap (λ (b : Bool). cond b 0 13) (sym told ∙ e) in
-    let y₀ : o ≡ 13 = i ∙ ap (λ (k : ℕ). or_else k (no_text_number n t)) (sym z) ∙ y in
-    (ap done_or (sym y₀), rows ∙ (ap (λ (b : Bool). cond b new M) e ∙ ap (λ (k : ℕ). left_or k M new) (sym y₀)))
+    (ap done_or (sym y), rows ∙ (ap (λ (b : Bool). cond b new M) e ∙ ap (λ (k : ℕ). left_or k M new) (sym y)))

@@ -7,19 +7,17 @@ use Rattle.pauli.specs.Row.{Row}
 use Rattle.pauli.proofs.RowLaws.{row-eq}
 use Rattle.encoding.specs.Limits.{max_qubits, max_rows, words_of}
 use Rattle.encoding.specs.Set.{Mem, count, rows_of, lay, Sound}
-use Rattle.encoding.specs.Refusals.{too_large, done_or, left_or}
-use Rattle.encoding.specs.declared.Answer.{Answer}
-use Rattle.encoding.specs.declared.Answer.TheVariants as answer
+use Rattle.encoding.specs.Refusals.{too_large, answer_or, done_or, left_or}
+use Rattle.encoding.specs.declared.Refusal.{Refusal}
+use Rattle.std.specs.Prelude.{Result, Ok}
 use Rattle.encoding.proofs.Memory.{Proper, read-lay, count-lay, valid-lay, lay-back, within-limits}
 use Rattle.encoding.proofs.Sets.{read-proper, read_none, read-passes}
 use Rattle.cmpnt_list.specs.Calls.{row_fault}
 use Rattle.row_text.specs.Text.{text_of, is_text, row_of, longest}
-use Rattle.row_text.specs.Calls.{length_or, fmt_fault, FmtElem, with_row, parse_fault, ParseElem}
+use Rattle.row_text.specs.Calls.{fmt_fault, FmtElem, with_row, parse_fault, ParseElem}
 use Rattle.row_text.specs.Workers.{falls_short, no_text_number}
 use Rattle.encoding.proofs.Faults.{or_else, or-none}
 use Rattle.row_text.proofs.Lines.{fmt-in-turn, parse-in-turn}
-use Rattle.row_text.specs.declared.Written.{Written}
-use Rattle.row_text.specs.declared.Written.TheVariants as written
 use Rattle.row_text.proofs.Rows.{read-text, row-long}
 use Rattle.row_text.proofs.Spelling.{one-row}
 use Rattle.row_text.proofs.Sizes.{at_most, all-x, long-all, as_long}
@@ -52,17 +50,19 @@ row-of n M r e =
     }
 
 -- what stands in the output behind a call that is not refused
-pub the-text : (n : ℕ) (M : Mem) (r : ℕ) (out : List ℕ) {out' : List ℕ} {a : Written} → FmtElem n M r out out' a → fmt_fault n M r out ≡ 0
-    → (a ≡ written.Length (length (text_of (rows_of n M r).ps))) × (take (length (text_of (rows_of n M r).ps)) out' ≡ text_of (rows_of n M r).ps)
+pub the-text : (n : ℕ) (M : Mem) (r : ℕ) (out : List ℕ) {out' : List ℕ} {a : Result ℕ Refusal} → FmtElem n M r out out' a → fmt_fault n M r out ≡ 0
+    → (a ≡ Ok (length (text_of (rows_of n M r).ps))) × (take (length (text_of (rows_of n M r).ps)) out' ≡ text_of (rows_of n M r).ps)
+unfolding answer_or
 the-text n M r out {out'} w e =
     let t = text_of (rows_of n M r).ps in (
-      w.answer ∙ ap (λ (k : ℕ). length_or k (length t)) e,
+      w.answer ∙ ap (λ (k : ℕ). answer_or k (length t)) e,
       ap (take (length t)) (w.bytes ∙ ap (λ (k : ℕ). left_or k out (t ++ drop (length t) out)) e) ∙ take_at t (drop (length t) out) (length t) refl,
     )
 
 -- what a text that is taken leaves
-taken : {n : ℕ} {M M' : Mem} {r : ℕ} {t : List ℕ} {a : Answer} → ParseElem n M r t M' a → parse_fault n M r t ≡ 0
-    → (a ≡ answer.Done) × (M' ≡ lay n (count M) (with_row (rows_of n M) r (row_of n t)))
+taken : {n : ℕ} {M M' : Mem} {r : ℕ} {t : List ℕ} {a : Result Unit Refusal} → ParseElem n M r t M' a → parse_fault n M r t ≡ 0
+    → (a ≡ Ok tt) × (M' ≡ lay n (count M) (with_row (rows_of n M) r (row_of n t)))
+unfolding answer_or
 taken {n} {M} {M'} {r} {t} p e =
     (p.answer ∙ ap done_or e, p.rows ∙ ap (λ (k : ℕ). left_or k M (lay n (count M) (with_row (rows_of n M) r (row_of n t)))) e)
 
@@ -75,10 +75,10 @@ new_row n M r t h s =
 
 -- ---- 15.6: reading a written row gives its Paulis back, in any row of any set of n qubits
 
-pub written_read : (n : ℕ) (M : Mem) (r : ℕ) (out : List ℕ) {out' : List ℕ} {a : Written} {N N' : Mem} {q : ℕ} {b : Answer}
+pub written_read : (n : ℕ) (M : Mem) (r : ℕ) (out : List ℕ) {out' : List ℕ} {a : Result ℕ Refusal} {N N' : Mem} {q : ℕ} {b : Result Unit Refusal}
     → FmtElem n M r out out' a → fmt_fault n M r out ≡ 0 → row_fault n N q ≡ 0
     → ParseElem n N q (take (length (text_of (rows_of n M r).ps)) out') N' b
-    → (b ≡ answer.Done) × ((rows_of n N' q).ps ≡ (rows_of n M r).ps)
+    → (b ≡ Ok tt) × ((rows_of n N' q).ps ≡ (rows_of n M r).ps)
 written_read n M r out {out'} {a} {N} {N'} {q} {b} w e f p =
     let ps = (rows_of n M r).ps in
     let t = text_of ps in
@@ -91,9 +91,9 @@ written_read n M r out {out'} {a} {N} {N'} {q} {b} w e f p =
     (s.0, ap (λ (L : Mem). (rows_of n L q).ps) s.1 ∙ (new_row n N q t k.there (k.proper.small q k.there) ∙ d.1))
 
 -- and a text that was read is what is written then
-pub read-written : {n : ℕ} {M M' : Mem} {r : ℕ} {t : List ℕ} {b : Answer} {out out' : List ℕ} {a : Written}
+pub read-written : {n : ℕ} {M M' : Mem} {r : ℕ} {t : List ℕ} {b : Result Unit Refusal} {out out' : List ℕ} {a : Result ℕ Refusal}
     → ParseElem n M r t M' b → parse_fault n M r t ≡ 0 → FmtElem n M' r out out' a → fmt_fault n M' r out ≡ 0
-    → (a ≡ written.Length (length t)) × (take (length t) out' ≡ t)
+    → (a ≡ Ok (length t)) × (take (length t) out' ≡ t)
 read-written {n} {M} {M'} {r} {t} {b} {out} {out'} {a} p e w f =
     let o = or-none (row_fault n M r) (no_text_number n t) (sym (parse-in-turn n M r t) ∙ e) in
     let m = row-of n M r o.0 in
@@ -101,7 +101,7 @@ read-written {n} {M} {M'} {r} {t} {b} {out} {out'} {a} p e w f =
     let x : (rows_of n M' r).ps ≡ row_of n t = ap (λ (L : Mem). (rows_of n L r).ps) s.1 ∙ new_row n M r t m.there (m.proper.small r m.there) in
     let y : text_of (rows_of n M' r).ps ≡ t = ap text_of x ∙ read-text n t (text-taken n t o.1) in
     let v = the-text n M' r out w f in
-    (v.0 ∙ ap (λ (l : List ℕ). written.Length (length l)) y, subst (λ (l : List ℕ). take (length l) out' ≡ l) y v.1)
+    (v.0 ∙ ap (λ (l : List ℕ). Ok (length l)) y, subst (λ (l : List ℕ). take (length l) out' ≡ l) y v.1)
 
 -- and reading it again changes nothing
 with-same : (σ : ℕ → Row) (r : ℕ) (ps : List Pauli) → (σ r).ps ≡ ps → with_row σ r ps ≡ σ
@@ -122,8 +122,8 @@ with-proper n m σ r t p h = record { long = λ k l. long k l (ℕ_discrete k r)
     small k l (yes e) = subst (λ (x : Row). x.p < 4) (sym (with-here σ r (row_of n t) k e)) (p.small r h)
     small k l (no ne) = subst (λ (x : Row). x.p < 4) (sym (with-other σ r (row_of n t) k ne)) (p.small k l)
 
-pub read_again : {n : ℕ} {M M' M'' : Mem} {r : ℕ} {t : List ℕ} {a b : Answer} → ParseElem n M r t M' a → parse_fault n M r t ≡ 0 → ParseElem n M' r t M'' b
-    → (b ≡ answer.Done) × (M'' ≡ M')
+pub read_again : {n : ℕ} {M M' M'' : Mem} {r : ℕ} {t : List ℕ} {a b : Result Unit Refusal} → ParseElem n M r t M' a → parse_fault n M r t ≡ 0 → ParseElem n M' r t M'' b
+    → (b ≡ Ok tt) × (M'' ≡ M')
 read_again {n} {M} {M'} {M''} {r} {t} {a} {b} p e q =
     let o = or-none (row_fault n M r) (no_text_number n t) (sym (parse-in-turn n M r t) ∙ e) in
     let m = row-of n M r o.0 in
@@ -174,8 +174,8 @@ as-long-as n few = (long-all n, as_long n (omega arith))
 
 -- ---- two outcomes that a contract allows are the same
 
-pub fmt-settled : (n : ℕ) (M : Mem) (r : ℕ) {out u v : List ℕ} {a b : Written} → FmtElem n M r out u a → FmtElem n M r out v b → (a ≡ b) × (u ≡ v)
+pub fmt-settled : (n : ℕ) (M : Mem) (r : ℕ) {out u v : List ℕ} {a b : Result ℕ Refusal} → FmtElem n M r out u a → FmtElem n M r out v b → (a ≡ b) × (u ≡ v)
 fmt-settled n M r x y = (x.answer ∙ sym y.answer, x.bytes ∙ sym y.bytes)
 
-pub parse-settled : {n : ℕ} {M : Mem} {r : ℕ} {t : List ℕ} {L N : Mem} {a b : Answer} → ParseElem n M r t L a → ParseElem n M r t N b → (a ≡ b) × (L ≡ N)
+pub parse-settled : {n : ℕ} {M : Mem} {r : ℕ} {t : List ℕ} {L N : Mem} {a b : Result Unit Refusal} → ParseElem n M r t L a → ParseElem n M r t N b → (a ≡ b) × (L ≡ N)
 parse-settled x y = (x.answer ∙ sym y.answer, x.rows ∙ sym y.rows)

@@ -1,12 +1,12 @@
 -- The reader's loop. The Paulis of the qubits before q are read: written, with what is left of the text behind them, they are the whole text, and every
 -- row that has this text starts with them. A piece takes both on, since a text falls into its pieces in one way; where none comes next no row has the text.
-use Rattle.row_text.proofs.Kit.{◌≡◌, refl, sym, ap, ap₂, ◌∙◌, Bool, true, false, cond, ◌&&◌, false≢true, List, [], ◌∷◌, ◌++◌, append_assoc, append-nil, ℕ, zero, suc, ◌+◌, ◌-◌, ◌^◌, ◌<◌, ◌≤◌, arith, add-one, eqb, ltb, leb, ne_eqb, le-leb, lt-ltb, leb-true, ltb-true, eqb-true, length, get_or, drop, set, length-append, length-drop, drop_of_length-le, drop-cons, drop-drop, Pauli, I, and_left, and_right}
+use Rattle.row_text.proofs.Kit.{◌≡◌, refl, sym, ap, ap₂, ◌∙◌, Bool, true, false, cond, false≢true, List, [], ◌∷◌, ◌++◌, append_assoc, append-nil, ℕ, zero, suc, ◌+◌, ◌-◌, ◌^◌, ◌<◌, ◌≤◌, arith, add-one, eqb, ne_eqb, eqb-true, length, get_or, drop, set, length-append, length-drop, drop_of_length-le, drop-cons, drop-drop, Pauli, I}
 use Rattle.encoding.specs.Limits.{max_qubits}
 use Rattle.encoding.specs.Refusals.{is_on}
-use Rattle.text.specs.Readers.{Got, none, got, answer, starts, Reads}
+use Rattle.text.specs.Readers.{Got, none, got, starts, ReadTo}
 use Rattle.text.specs.Numbers.{canonical}
 use Rattle.row_text.specs.Text.{spell, spaced}
-use Rattle.row_text.specs.Workers.{letter_of, past, paired, lettered, named, NamedBy, lead, left, Found, NextPauli, Tells, a-row, no_row, blank}
+use Rattle.row_text.specs.Workers.{letter_of, past, paired, lettered, named, NamedTo, lead, left, Found, Tells, a-row, no_row, blank}
 use Rattle.row_text.proofs.Spelling.{spell-on, none-got, same-value, length-blank, spaced-blank, spaced-append, spaced-stops, lead-of, unlead, leads, led-text, led-short, named_back, named-only, begins}
 
 -- ---- a place of a text
@@ -31,10 +31,8 @@ space-within at s e = go (drop at s) refl e
     go [] k f = absurd (false≢true (sym f))
     go (b ∷ t) k f = omega (arith, ap length k, length-drop at s)
 
-pub no-space : (at : ℕ) (s : List ℕ) → (at ≡ 0 → ⊥) → false ≡ starts 32 (drop at s) → drop (length s) s ≡ past (left at s)
-no-space at s h e =
-    drop_of_length-le s {i = length s} (omega arith)
-    ∙ sym (ap past (left-later at s h) ∙ ap (λ (b : Bool). cond b (drop 1 (drop at s)) []) (sym e))
+pub no-space : (at : ℕ) (s : List ℕ) → (at ≡ 0 → ⊥) → false ≡ starts 32 (drop at s) → past (left at s) ≡ []
+no-space at s h e = ap past (left-later at s h) ∙ ap (λ (b : Bool). cond b (drop 1 (drop at s)) []) (sym e)
 
 -- what is left where the text ends, and where it does not
 left-none : (at : ℕ) (s : List ℕ) → length s ≤ at → left at s ≡ []
@@ -57,53 +55,44 @@ left-some at s h = go (eqb at 0) refl s h
 
 -- ---- a letter and a number
 
-pub end-of-text : (top i : ℕ) (s : List ℕ) → length s ≤ i → NamedBy (lettered top (drop i s)) s top false 0 0 0
+pub end-of-text : (top i : ℕ) (s : List ℕ) → length s ≤ i → lettered top (drop i s) ≡ none
 unfolding lettered
-end-of-text top i s h = record { is = ap (lettered top) (drop_of_length-le s {i = i} h); within = omega arith; low = omega arith }
+end-of-text top i s h = ap (lettered top) (drop_of_length-le s {i = i} h)
 
-pub letter-read : (top i : ℕ) (s : List ℕ) {ok l : Bool} {v next : ℕ} → i < length s → Reads (canonical top) s (i + 1) ok v next → v ≤ top → l ≡ is_on (letter_of (get_or s i 0)) → NamedBy (lettered top (drop i s)) s top (ok && l) (get_or s i 0) v next
-unfolding lettered
-letter-read top i s {ok} {l} {v} {next} h r k e =
-    record {
-      is =
-          ap (lettered top) (drop-cons s i 0 h)
-          ∙ (ap (λ (j : ℕ). paired (letter_of (get_or s i 0)) (canonical top (drop j s))) (sym (add-one i))
-          ∙ (ap (paired (letter_of (get_or s i 0))) r.is ∙ go ok l e));
-      within = r.within;
-      low = k;
-    }
-  where
-    go : (a b : Bool) → b ≡ is_on (letter_of (get_or s i 0)) → paired (letter_of (get_or s i 0)) (answer a v (drop next s)) ≡ answer (a && b) (letter_of (get_or s i 0), v) (drop next s)
-    go false b f = refl
-    go true true f = ap (λ (x : Bool). cond {A = Got (Pauli × ℕ)} x (got (letter_of (get_or s i 0), v) (drop next s)) none) (sym f)
-    go true false f = ap (λ (x : Bool). cond {A = Got (Pauli × ℕ)} x (got (letter_of (get_or s i 0), v) (drop next s)) none) (sym f)
+module _ (top i : ℕ) (s : List ℕ) (h : i < length s) where
+  by-letter : lettered top (drop i s) ≡ paired (letter_of (get_or s i 0)) (canonical top (drop (i + 1) s))
+  unfolding lettered
+  by-letter = ap (lettered top) (drop-cons s i 0 h) ∙ ap (λ (j : ℕ). paired (letter_of (get_or s i 0)) (canonical top (drop j s))) (sym (add-one i))
+
+  pub no-letter : is_on (letter_of (get_or s i 0)) ≡ false → lettered top (drop i s) ≡ none
+  no-letter e = by-letter ∙ go (canonical top (drop (i + 1) s))
+    where
+      go : (g : Got ℕ) → paired (letter_of (get_or s i 0)) g ≡ none
+      go none = refl
+      go (got v t) = rw e
+
+  pub no_number : canonical top (drop (i + 1) s) ≡ none → lettered top (drop i s) ≡ none
+  no_number e = by-letter ∙ rw e
+
+  pub letter-read : {p : Pauli} → p ≡ letter_of (get_or s i 0) → is_on p ≡ true → {v next : ℕ} → ReadTo (canonical top) s (i + 1) v next → v ≤ top → NamedTo (lettered top (drop i s)) s top p v next
+  letter-read {p} e o r k = record { is = by-letter ∙ rw (r.is, ← e, o); within = r.within; low = k }
 
 -- ---- the next Pauli
 
-module _ (n q : ℕ) (few : n ≤ max_qubits) (t s : List ℕ) (i : ℕ) (e : drop i s ≡ past t) {ok : Bool} {c v next : ℕ} (r : NamedBy (lettered n (drop i s)) s n ok c v next) where
+none-named : (n : ℕ) (t : List ℕ) → past t ≡ [] → named n t ≡ none
+unfolding lettered
+none-named n t e = go (starts 32 t) (drop 1 t) e
+  where
+    go : (b : Bool) (u : List ℕ) → cond b u [] ≡ [] → cond {A = Got (Pauli × ℕ)} b (lettered n u) none ≡ none
+    go true u f = ap (lettered n) f
+    go false u f = refl
+
+module _ (n q : ℕ) (few : n ≤ max_qubits) (t : List ℕ) where
   limit : n < 10 ^ 20
   limit = omega arith
 
-  -- behind its space
-  by-named : named n t ≡ answer ok (letter_of c, v) (drop next s)
-  unfolding lettered
-  by-named = go (starts 32 t) refl ∙ (ap (lettered n) (sym e) ∙ r.is)
-    where
-      go : (b : Bool) → starts 32 t ≡ b → cond {A = Got (Pauli × ℕ)} b (lettered n (drop 1 t)) none ≡ lettered n (cond b (drop 1 t) [])
-      go true f = refl
-      go false f = refl
-
-  tests : (a b : Bool) → (ok && (a && b)) ≡ true → (ok ≡ true) × (a ≡ true) × (b ≡ true)
-  tests a b f = (and_left ok (a && b) f, and_left a b (and_right ok (a && b) f), and_right a b (and_right ok (a && b) f))
-
-  found : (ok && (leb q v && ltb v n)) ≡ true → Found n q t (letter_of c) v (drop next s)
-  found f =
-      let h = tests (leb q v) (ltb v n) f in
-      let k = named-only n limit t (letter_of c) v (drop next s) (by-named ∙ ap (λ (b : Bool). answer {A = Pauli × ℕ} b (letter_of c, v) (drop next s)) h.0) in
-      record { is = k.is; on = k.on; low = leb-true q v h.1; high = ltb-true v n h.2; stops = k.stops }
-
   -- what is written of a row starts with a piece that would have been taken
-  not_found : (ok && (leb q v && ltb v n)) ≡ false → (rs : List Pauli) → q + length rs ≡ n → spaced q rs ≡ t → t ≡ []
+  not_found : ((p : Pauli) (v : ℕ) (u : List ℕ) → named n t ≡ got (p, v) u → q ≤ v → v < n → ⊥) → (rs : List Pauli) → q + length rs ≡ n → spaced q rs ≡ t → t ≡ []
   not_found f rs m k = go t refl
     where
       go : (u : List ℕ) → t ≡ u → t ≡ []
@@ -112,19 +101,40 @@ module _ (n q : ℕ) (few : n ≤ max_qubits) (t s : List ℕ) (i : ℕ) (e : dr
           let l = leads rs q b u (k ∙ z) in
           let w = q + l.gap in
           let w-low : w < n = omega (arith, led-short rs l, m) in
-          let g : ◌≡◌ {A = Got (Pauli × ℕ)} (answer ok (letter_of c, v) (drop next s)) (got (l.first, w) (spaced (suc w) l.rest)) =
-          sym by-named
-          ∙ (ap (named n) (sym k ∙ led-text rs q l) ∙ named_back n limit l.first w (spaced (suc w) l.rest) l.on (omega arith) (spaced-stops (suc w) l.rest)) in
-          absurd (off ok g w-low (omega arith) f)
-        where
-          off : (b : Bool) {p : Pauli} {w : ℕ} {y : List ℕ} → ◌≡◌ {A = Got (Pauli × ℕ)} (answer b (letter_of c, v) (drop next s)) (got (p, w) y) → w < n → q ≤ w → (b && (leb q v && ltb v n)) ≡ false → ⊥
-          off false g a b f = none-got g
-          off true {p} {w} g a b f =
-              let x : v ≡ w = ap (λ (y : Pauli × ℕ). y.1) (same-value g) in
-              false≢true (sym f ∙ ap₂ ◌&&◌ (le-leb q v (omega arith)) (lt-ltb v n (omega arith)))
+          let g : named n t ≡ got (l.first, w) (spaced (suc w) l.rest) =
+          ap (named n) (sym k ∙ led-text rs q l) ∙ named_back n limit l.first w (spaced (suc w) l.rest) l.on (omega arith) (spaced-stops (suc w) l.rest) in
+          absurd (f l.first w (spaced (suc w) l.rest) g (omega arith) w-low)
 
-  pub next-pauli : NextPauli n q t s (ok && (leb q v && ltb v n)) c v next
-  next-pauli = record { within = r.within; low = r.low; yes = found; no = not_found }
+  -- no space comes first
+  pub next-none : past t ≡ [] → (rs : List Pauli) → q + length rs ≡ n → spaced q rs ≡ t → t ≡ []
+  next-none e = not_found (λ p v u g a b. none-got (sym (none-named n t e) ∙ g))
+
+  module _ (s : List ℕ) (i : ℕ) (e : drop i s ≡ past t) where
+    -- behind its space
+    by-named : named n t ≡ lettered n (drop i s)
+    unfolding lettered
+    by-named = go (starts 32 t) refl ∙ ap (lettered n) (sym e)
+      where
+        go : (b : Bool) → starts 32 t ≡ b → cond {A = Got (Pauli × ℕ)} b (lettered n (drop 1 t)) none ≡ lettered n (cond b (drop 1 t) [])
+        go true f = refl
+        go false f = refl
+
+    pub next-unnamed : lettered n (drop i s) ≡ none → (rs : List Pauli) → q + length rs ≡ n → spaced q rs ≡ t → t ≡ []
+    next-unnamed k = not_found (λ p v u g a b. none-got (sym (by-named ∙ k) ∙ g))
+
+    module _ {p : Pauli} {v next : ℕ} (r : NamedTo (lettered n (drop i s)) s n p v next) where
+      -- its qubit may not come next
+      pub next-off : (q ≤ v → v < n → ⊥) → (rs : List Pauli) → q + length rs ≡ n → spaced q rs ≡ t → t ≡ []
+      next-off f =
+          not_found
+          (λ p w u g a b.
+          let x : v ≡ w = ap (λ (y : Pauli × ℕ). y.1) (same-value (sym r.is ∙ (sym by-named ∙ g))) in
+          f (omega arith) (omega arith))
+
+      pub next-found : q ≤ v → v < n → Found n q t p v (drop next s)
+      next-found l h =
+          let k = named-only n limit t p v (drop next s) (by-named ∙ r.is) in
+          record { is = k.is; on = k.on; low = l; high = h; stops = k.stops }
 
 -- a piece takes the place on
 pub goes_on : {n q : ℕ} (s : List ℕ) {p : Pauli} {v : ℕ} (at next : ℕ) → at < length s → next ≤ length s → Found n q (left at s) p v (drop next s) → at < next

@@ -9,21 +9,21 @@ pub one-digit : (v : ℕ) → v < 10 → length (numeral 10 v) ≡ 1
 one-digit v h = length-numeral 10 v ∙ size_small 10 20 v h
 
 pub two_digits : (v : ℕ) → 10 ≤ v → v < 100 → length (numeral 10 v) ≡ 2
-two_digits v h k = length-numeral 10 v ∙ (size-more 10 20 v (omega arith) h ∙ ap suc (size_small 10 (20 - 1) (v / 10) (omega arith)))
+two_digits v h k = length-numeral 10 v ∙ (size-more 10 20 19 v refl h ∙ ap suc (size_small 10 19 (v / 10) (omega arith)))
 
 pub three-digits : (v : ℕ) → 100 ≤ v → v < 1000 → length (numeral 10 v) ≡ 3
 three-digits v h k =
     length-numeral 10 v
-    ∙ (size-more 10 20 v (omega arith) (omega arith)
-    ∙ ap suc (size-more 10 (20 - 1) (v / 10) (omega arith) (omega arith) ∙ ap suc (size_small 10 (20 - 1 - 1) (v / 10 / 10) (omega arith))))
+    ∙ (size-more 10 20 19 v refl (omega arith)
+    ∙ ap suc (size-more 10 19 18 (v / 10) refl (omega arith) ∙ ap suc (size_small 10 18 (v / 10 / 10) (omega arith))))
 
 pub four-digits : (v : ℕ) → 1000 ≤ v → v < 10000 → length (numeral 10 v) ≡ 4
 four-digits v h k =
     length-numeral 10 v
-    ∙ (size-more 10 20 v (omega arith) (omega arith)
+    ∙ (size-more 10 20 19 v refl (omega arith)
     ∙ ap suc
-    (size-more 10 (20 - 1) (v / 10) (omega arith) (omega arith)
-    ∙ ap suc (size-more 10 (20 - 1 - 1) (v / 10 / 10) (omega arith) (omega arith) ∙ ap suc (size_small 10 (20 - 1 - 1 - 1) (v / 10 / 10 / 10) (omega arith)))))
+    (size-more 10 19 18 (v / 10) refl (omega arith)
+    ∙ ap suc (size-more 10 18 17 (v / 10 / 10) refl (omega arith) ∙ ap suc (size_small 10 17 (v / 10 / 10 / 10) (omega arith)))))
 
 -- the pieces of the first q qubits
 abbrev upto : ℕ → ℕ

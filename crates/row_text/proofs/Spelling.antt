@@ -1,12 +1,12 @@
 -- A piece of a text, a space, a letter and a number, is read back, and what is read is such a piece: a letter says its Pauli, and a canonical
 -- number its qubit. So a text falls into its pieces in one way, and rows of n qubits that have the same text are the same.
-use Rattle.row_text.proofs.Kit.{◌≡◌, refl, sym, ap, ap₂, ◌∙◌, subst, Bool, true, false, cond, ◌||◌, false≢true, List, [], ◌∷◌, ◌++◌, append_assoc, ℕ, zero, suc, ◌+◌, ◌^◌, ◌<◌, ◌≤◌, arith, eqb, eqb-true, eq-eqb, ne_eqb, add-zero, length, drop, Pauli, I, X, Y, Z}
+use Rattle.row_text.proofs.Kit.{◌≡◌, refl, sym, ap, ◌∙◌, subst, Bool, true, false, cond, false≢true, List, [], ◌∷◌, ◌++◌, append_assoc, ℕ, zero, suc, ◌+◌, ◌^◌, ◌<◌, ◌≤◌, arith, eqb, eqb-true, add-zero, length, drop, Pauli, I, X, Y, Z}
 use Rattle.encoding.specs.Refusals.{is_on}
 use Rattle.text.specs.Readers.{Got, none, got}
 use Rattle.text.specs.Numbers.{digit_of, numeral, canonical, Stops}
 use Rattle.text.proofs.OneText.{canonical-only, canonical-back}
 use Rattle.row_text.specs.Text.{spell, spaced, text_of}
-use Rattle.row_text.specs.Workers.{letter, letter_of, piece, paired, lettered, named, lead, blank}
+use Rattle.row_text.specs.Workers.{letter, letter_of, paired, lettered, named, lead, blank}
 
 -- ---- letters
 
@@ -27,45 +27,17 @@ letter-only c o = go (eqb c 88) (eqb c 89) (eqb c 90) refl refl refl o
     go false false true e f g o = sym (eqb-true c 90 g)
     go false false false e f g o = absurd (false≢true o)
 
--- a letter, as the code tells it
-pub is-on : (c : ℕ) → (eqb c 88 || (eqb c 89 || eqb c 90)) ≡ is_on (letter_of c)
-unfolding letter_of
-is-on c = go (eqb c 88) (eqb c 89) (eqb c 90)
-  where
-    go : (x y z : Bool) → (x || (y || z)) ≡ is_on (cond x X (cond y Y (cond z Z I)))
-    go true y z = refl
-    go false true z = refl
-    go false false true = refl
-    go false false false = refl
-
-letter-by : (c : ℕ) (x y z : Bool) → eqb c 88 ≡ x → eqb c 89 ≡ y → eqb c 90 ≡ z → letter_of c ≡ cond x X (cond y Y (cond z Z I))
-unfolding letter_of
-letter-by c x y z e f g = ap₂ (λ (a : Bool) (p : Pauli). cond a X p) e (ap₂ (λ (a b : Bool). cond a Y (cond b Z I)) f g)
-
-pub is_x : (c : ℕ) → c ≡ 88 → X ≡ letter_of c
-is_x c e = sym (letter-by c true (eqb c 89) (eqb c 90) (eq-eqb c 88 e) refl refl)
-
-pub is_y : (c : ℕ) → (c ≡ 88 → ⊥) → c ≡ 89 → Y ≡ letter_of c
-is_y c n e = sym (letter-by c false true (eqb c 90) (ne_eqb c 88 n) (eq-eqb c 89 e) refl)
-
-pub is-z : (c : ℕ) → (c ≡ 88 → ⊥) → (c ≡ 89 → ⊥) → c ≡ 90 → Z ≡ letter_of c
-is-z c n m e = sym (letter-by c false false true (ne_eqb c 88 n) (ne_eqb c 89 m) (eq-eqb c 90 e))
-
-pub is_none : (c : ℕ) → (c ≡ 88 → ⊥) → (c ≡ 89 → ⊥) → (c ≡ 90 → ⊥) → I ≡ letter_of c
-is_none c n m o = sym (letter-by c false false false (ne_eqb c 88 n) (ne_eqb c 89 m) (ne_eqb c 90 o))
-
 pub spell-on : (p : Pauli) (q : ℕ) → is_on p ≡ true → spell q p ≡ 32 ∷ letter p ∷ numeral 10 q
 spell-on I q e = absurd (false≢true e)
 spell-on X q e = refl
 spell-on Y q e = refl
 spell-on Z q e = refl
 
-pub piece-spell : (p : Pauli) (q : ℕ) → spell q p ≡ piece (letter p) q
-unfolding piece
-piece-spell I q = refl
-piece-spell X q = refl
-piece-spell Y q = refl
-piece-spell Z q = refl
+pub spell-long : (p : Pauli) (q : ℕ) → (p ≡ I → ⊥) → length (spell q p) ≡ 2 + length (numeral 10 q)
+spell-long I q h = absurd (h refl)
+spell-long X q h = omega arith
+spell-long Y q h = omega arith
+spell-long Z q h = omega arith
 
 -- ---- what a reader got
 

@@ -1,29 +1,29 @@
 // A row into text. Its length is found first, so that a text that does not fit leaves the output as it was.
 ghost use Rattle.std.specs.Prelude.{◌≡◌, true, ◌++◌, ◌∷◌, suc, ◌+◌, ◌-◌, ◌*◌, ◌≤◌, ◌<◌, length, drop};
 ghost use Rattle.text.specs.Numbers.{numeral};
+ghost use Rattle.text.specs.Readers.{Laid};
 ghost use Rattle.encoding.specs.Limits.{max_qubits, max_rows, words_of};
 ghost use Rattle.encoding.specs.Words.{qubits};
-ghost use Rattle.encoding.specs.Set.{rows_of, Sound, mem_of};
+ghost use Rattle.encoding.specs.Set.{rows_of, Sound, set_of};
 ghost use Rattle.cmpnt_list.specs.Workers.{RowAt};
-ghost use Rattle.row_text.specs.Text.{spaced, text_of};
+ghost use Rattle.row_text.specs.Text.{spell, spaced, text_of};
 ghost use Rattle.row_text.specs.Calls.{TextWritten, FmtElem};
 ghost use Rattle.row_text.specs.Workers.{falls_short};
-ghost use Rattle.row_text.specs.Workers.{letter as Workers·letter, short, piece, piece_at, Puts, NoneFrom, Steps};
+ghost use Rattle.row_text.specs.Workers.{LetterIs, short, piece_at, NoneFrom, Steps};
 
-use crate::Written;
+use encoding::{Refusal, RowSet};
 use pauli::{PauliMatrix, QubitNumber, RowNumber};
+use std::ops::Range;
 
-// The byte of a Pauli; NO_LETTER for I.
-const NO_LETTER: u8 = 0;
-
-fn letter(p: PauliMatrix) -> u8
-    ensures { result ≡ Workers·letter p }
+// The byte of a Pauli; none for I.
+fn letter(p: PauliMatrix) -> Option<u8>
+    ensures { LetterIs p result }
 {
     match p {
-        PauliMatrix::I => NO_LETTER,
-        PauliMatrix::X => b'X',
-        PauliMatrix::Y => b'Y',
-        PauliMatrix::Z => b'Z',
+        PauliMatrix::I => None,
+        PauliMatrix::X => Some(b'X'),
+        PauliMatrix::Y => Some(b'Y'),
+        PauliMatrix::Z => Some(b'Z'),
     }
 }
 
@@ -46,26 +46,26 @@ fn starts_empty(x: &[u64], z: &[u64], q: usize) -> bool
     (x[j] == 0) & (z[j] == 0)
 }
 
-// The letter of a qubit, and the qubit to look at next.
+// The Pauli of a qubit, and the qubit to look at next.
 #[derive(Drop)]
 struct Ahead {
-    letter: u8,
+    pauli: PauliMatrix,
     next: usize,
 }
 
 // An empty word is one step.
 fn step(n: usize, x: &[u64], z: &[u64], q: usize) -> Ahead
     requires { (q < n) × (n ≤ max_qubits) }
-    ensures { Steps (qubits n x.now z.now) q result.letter result.next }
+    ensures { Steps (qubits n x.now z.now) q result.pauli result.next }
 {
     if starts_empty(x, z, q) {
         return Ahead {
-            letter: NO_LETTER,
+            pauli: PauliMatrix::I,
             next: q + 64,
         };
     }
     Ahead {
-        letter: letter(encoding::get_qubit(x, z, QubitNumber(q))),
+        pauli: encoding::get_qubit(x, z, QubitNumber(q)),
         next: q + 1,
     }
 }
@@ -89,15 +89,15 @@ fn digits(q: usize) -> usize
     4
 }
 
-// How many bytes a letter takes with its number and the space before it.
-fn piece_size(c: u8, q: usize) -> usize
+// How many bytes a Pauli takes: its letter and its number, and the space before them; none for I.
+fn piece_size(p: PauliMatrix, q: usize) -> usize
     requires { q < max_qubits }
-    ensures { (result ≡ length (piece c q)) × (result ≤ 6) }
+    ensures { (result ≡ length (spell q p)) × (result ≤ 6) }
 {
-    if c != NO_LETTER {
-        return digits(q) + 2;
+    match p {
+        PauliMatrix::I => 0,
+        _ => digits(q) + 2,
     }
-    0
 }
 
 // The length of the text with a space before it.
@@ -107,50 +107,42 @@ fn spaced_size(n: usize, x: &[u64], z: &[u64]) -> usize
 {
     let mut size: usize = 0;
     let mut q: usize = 0;
+    // no `for`: an empty word is one step of 64 qubits
     while q < n {
         let s = step(n, x, z, q);
-        size += piece_size(s.letter, q);
+        size += piece_size(s.pauli, q);
         q = s.next;
     }
     size
 }
 
-// ---- the bytes
+// ---- the bytes, which have room: the place behind them
 
-fn wide(q: usize) -> u64
-    requires { q < max_qubits }
-    ensures { result ≡ q }
-{
-    q as u64
-}
-
-// A letter and a number, which have room.
 fn put_short(out: &mut [u8], at: usize, c: u8, q: usize) -> usize
     requires { (q < max_qubits) × (at + length (short c q) ≤ length out.old) }
-    ensures { Puts (short c q) at out.old out.new result }
+    ensures { Laid (short c q) out.old at out.new result }
 {
-    text::put_byte(out, at, c);
-    let r = text::put_decimal(out, at + 1, wide(q));
-    r.at
+    let at = text::put_byte(out, at, c).unwrap();
+    text::put_decimal(out, at, q as u64).unwrap()
 }
 
 // The same behind a space.
 fn put_behind(out: &mut [u8], at: usize, c: u8, q: usize) -> usize
     requires { (q < max_qubits) × (at + suc (length (short c q)) ≤ length out.old) }
-    ensures { Puts (32 ∷ short c q) at out.old out.new result }
+    ensures { Laid (32 ∷ short c q) out.old at out.new result }
 {
-    text::put_byte(out, at, b' ');
-    put_short(out, at + 1, c, q)
+    let at = text::put_byte(out, at, b' ').unwrap();
+    put_short(out, at, c, q)
 }
 
-// A letter, if it is one, with its number; at the start of the output no space stands before it.
-fn put_piece(out: &mut [u8], at: usize, c: u8, q: usize) -> usize
-    requires { (q < max_qubits) × (at + length (piece_at at c q) ≤ length out.old) }
-    ensures { Puts (piece_at at c q) at out.old out.new result }
+// A Pauli with its number; at the start of the output no space stands before it.
+fn put_piece(out: &mut [u8], at: usize, p: PauliMatrix, q: usize) -> usize
+    requires { (q < max_qubits) × (at + length (piece_at at q p) ≤ length out.old) }
+    ensures { Laid (piece_at at q p) out.old at out.new result }
 {
-    if c == NO_LETTER {
+    let Some(c) = letter(p) else {
         return at;
-    }
+    };
     if at == 0 {
         return put_short(out, at, c, q);
     }
@@ -166,88 +158,55 @@ fn put_row(n: usize, x: &[u64], z: &[u64], out: &mut [u8])
 {
     let mut at: usize = 0;
     let mut q: usize = 0;
+    // no `for`: an empty word is one step of 64 qubits
     while q < n {
         let s = step(n, x, z, q);
-        at = put_piece(out, at, s.letter, q);
+        at = put_piece(out, at, s.pauli, q);
         q = s.next;
     }
 }
 
 // ---- the call
 
-fn less_one(k: usize) -> usize
-    ensures { result ≡ k - 1 }
-{
-    if k > 0 {
-        return k - 1;
-    }
-    0
-}
-
 // The text of a row that lies in x and z.
-fn fmt_row(n: usize, x: &[u64], z: &[u64], out: &mut [u8]) -> Written
+fn fmt_row(n: usize, x: &[u64], z: &[u64], out: &mut [u8]) -> Result<usize, Refusal>
     requires { n ≤ max_qubits }
     ensures { TextWritten (falls_short (qubits n x.now z.now) out.old)
         (qubits n x.now z.now) out.old out.new result }
 {
-    let size = less_one(spaced_size(n, x, z));
+    let size = spaced_size(n, x, z).saturating_sub(1);
     if size > out.len() {
-        return Written::Refused(14);
+        return Err(Refusal::SHORT_OUTPUT);
     }
     put_row(n, x, z, out);
-    Written::Length(size)
+    Ok(size)
 }
 
 // The text of row r.
-fn fmt_at(
-    n: usize,
-    m: usize,
-    x: &[u64],
-    z: &[u64],
-    phases: &[u64],
-    r: usize,
-    out: &mut [u8],
-) -> Written
-    requires sound { Sound n (mem_of m x.now z.now phases.now) }
-    requires r_lt_m { r < m }
-    ensures { TextWritten (falls_short (rows_of n (mem_of m x.now z.now phases.now) r).ps out.old)
-        (rows_of n (mem_of m x.now z.now phases.now) r).ps out.old out.new result }
+fn fmt_at(set: &RowSet<'_>, r: usize, out: &mut [u8]) -> Result<usize, Refusal>
+    requires sound { Sound set.now.n (set_of set.now) }
+    requires r_lt_m { r < set.now.m }
+    ensures { TextWritten (falls_short (rows_of set.now.n (set_of set.now) r).ps out.old)
+        (rows_of set.now.n (set_of set.now) r).ps out.old out.new result }
 {
-    let s = row_span(r, n, m);
-    let a = s.0;
-    let e = s.1;
-    fmt_row(n, &x[a..e], &z[a..e], out)
+    let s = row_span(r, set.n, set.m);
+    fmt_row(set.n, &set.x[s.start..s.end], &set.z[s.start..s.end], out)
 }
 
-// Where a row starts, and where it ends.
-#[derive(Drop)]
-pub(crate) struct Span(pub usize, pub usize);
-
-// Where row r of m rows of n qubits lies.
-pub(crate) fn row_span(r: usize, n: usize, m: usize) -> Span
+// Where row r of m rows of n qubits lies: as in `cmpnt_list`, where it asks for a row of the set, which no public function may.
+pub(crate) fn row_span(r: usize, n: usize, m: usize) -> Range<usize>
     requires { (r < m) × (n ≤ max_qubits) × (m ≤ max_rows) }
-    ensures { RowAt r (words_of n) m result.0 result.1 }
+    ensures { RowAt r (words_of n) m result.start result.end }
 {
     let w = encoding::words(n);
     let a = r * w;
-    Span(a, a + w)
+    a..a + w
 }
 
 // The text of a row into the lent output, and its length.
-pub fn fmt_elem(
-    n: usize,
-    m: usize,
-    x: &[u64],
-    z: &[u64],
-    phases: &[u64],
-    row: RowNumber,
-    out: &mut [u8],
-) -> Written
-    ensures { FmtElem n (mem_of m x.now z.now phases.now) row.0 out.old out.new result }
+pub fn fmt_elem(set: &RowSet<'_>, row: RowNumber, out: &mut [u8]) -> Result<usize, Refusal>
+    ensures { FmtElem set.now.n (set_of set.now) row.0 out.old out.new result }
 {
-    let f = encoding::row_fault(n, m, x, z, phases, m <= row.0);
-    if f != 0 {
-        return Written::Refused(f);
-    }
-    fmt_at(n, m, x, z, phases, row.0, out)
+    encoding::row_fault(set, set.m <= row.0)?;
+    fmt_at(set, row.0, out)
 }

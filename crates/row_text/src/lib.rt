@@ -7,10 +7,3 @@ mod parse;
 
 pub use fmt::fmt_elem;
 pub use parse::parse_elem;
-
-// What writing a row's text answers.
-#[derive(Drop)]
-pub enum Written {
-    Length(usize),
-    Refused(u8),
-}

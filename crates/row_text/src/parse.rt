@@ -2,109 +2,88 @@
 ghost use Rattle.std.specs.Prelude.{◌≡◌, [], ◌≤◌, ◌<◌, length, drop, take};
 ghost use Rattle.encoding.specs.Limits.{max_qubits, max_words, words_of};
 ghost use Rattle.encoding.specs.Set.{Sound, mem_of};
-ghost use Rattle.encoding.specs.Refusals.{is_on};
 ghost use Rattle.row_text.specs.Calls.{ParseElem};
-ghost use Rattle.row_text.specs.Workers.{letter_of, past, left, lettered as Workers·lettered, NamedBy, NextPauli};
-ghost use Rattle.row_text.specs.Workers.{LetterSet, blank, Holding, Scanned, RowParsed, SetParsed};
+ghost use Rattle.row_text.specs.Workers.{left, lettered as Workers·lettered, PauliIs, BehindSpace, NamedBy, NextPauli};
+ghost use Rattle.row_text.specs.Workers.{PauliSet, blank, Holding, Scanned, RowParsed, SetParsed};
 
 use crate::fmt::row_span;
-use encoding::Answer;
+use encoding::{Refusal, RowSet};
 use pauli::{PauliMatrix, QubitNumber, RowNumber};
 
 // ---- one Pauli of a text
 
-// The Pauli of a letter; I where it is none.
-fn pauli_of(c: u8) -> PauliMatrix
-    ensures { result ≡ letter_of c }
+// The Pauli of a letter.
+#[tactic(auto, unfolding(crate::specs::Workers::letter_of))]
+fn pauli_of(c: u8) -> Option<PauliMatrix>
+    ensures { PauliIs c result }
 {
-    if c == b'X' {
-        return PauliMatrix::X;
-    }
-    if c == b'Y' {
-        return PauliMatrix::Y;
-    }
-    if c == b'Z' {
-        PauliMatrix::Z
-    } else {
-        PauliMatrix::I
+    match c {
+        b'X' => Some(PauliMatrix::X),
+        b'Y' => Some(PauliMatrix::Y),
+        b'Z' => Some(PauliMatrix::Z),
+        _ => None,
     }
 }
 
-fn is_letter(c: u8) -> bool
-    ensures { result ≡ is_on (letter_of c) }
-{
-    (c == b'X') | ((c == b'Y') | (c == b'Z'))
-}
-
-// Where a letter is to stand: at the start of the text, or behind a space; its end where there is none.
-fn behind_space(s: &[u8], at: usize) -> usize
-    ensures { (drop result s.now ≡ past (left at s.now)) × (result ≤ length s.now) }
+// Where a letter is to stand: at the start of the text, or behind a space.
+fn behind_space(s: &[u8], at: usize) -> Option<usize>
+    ensures { BehindSpace at s.now result }
 {
     if at == 0 {
-        return 0;
+        return Some(0);
     }
     if text::starts(b' ', s, at) {
-        return at + 1;
+        Some(at + 1)
+    } else {
+        None
     }
-    s.len()
 }
 
-// Whether there is a letter with a number, the two of them, and the place behind them.
+// A letter's Pauli and its number, and the place behind them.
 #[derive(Drop)]
 struct Named {
-    ok: bool,
-    letter: u8,
+    pauli: PauliMatrix,
     qubit: usize,
     at: usize,
 }
 
 // A letter and a number of at most top.
-fn lettered(s: &[u8], i: usize, top: usize) -> Named
+fn lettered(s: &[u8], i: usize, top: usize) -> Option<Named>
     requires { top ≤ max_qubits }
-    ensures { NamedBy (Workers·lettered top (drop i s.now)) s.now top result.ok result.letter result.qubit result.at }
+    ensures { NamedBy (Workers·lettered top (drop i s.now)) s.now top result }
 {
     if i >= s.len() {
-        return Named {
-            ok: false,
-            letter: 0,
-            qubit: 0,
-            at: 0,
-        };
+        return None;
     }
-    let c = s[i];
-    let r = text::canonical(s, i + 1, top as u64);
-    Named {
-        ok: r.ok & is_letter(c),
-        letter: c,
-        qubit: r.value as usize,
-        at: r.at,
-    }
+    let pauli = pauli_of(s[i])?;
+    let (v, at) = text::canonical(s, i + 1, top as u64)?;
+    Some(Named {
+        pauli,
+        qubit: v as usize,
+        at,
+    })
 }
 
 // The next Pauli of a text: at qubit q or above, and below n.
-fn next(n: usize, s: &[u8], at: usize, q: usize) -> Named
+fn next(n: usize, s: &[u8], at: usize, q: usize) -> Option<Named>
     requires { n ≤ max_qubits }
-    ensures { NextPauli n q (left at s.now) s.now result.ok result.letter result.qubit result.at }
+    ensures { NextPauli n q (left at s.now) s.now result }
 {
-    let i = behind_space(s, at);
-    let r = lettered(s, i, n);
-    let above = q <= r.qubit;
-    let below = r.qubit < n;
-    Named {
-        ok: r.ok & (above & below),
-        letter: r.letter,
-        qubit: r.qubit,
-        at: r.at,
+    let i = behind_space(s, at)?;
+    let r = lettered(s, i, n)?;
+    if r.qubit < q {
+        return None;
     }
+    if r.qubit < n { Some(r) } else { None }
 }
 
 // ---- all of them
 
-// The qubit becomes the Pauli of the letter.
-fn set_letter(x: &mut [u64], z: &mut [u64], qubit: usize, c: u8)
-    ensures { LetterSet qubit c x.old z.old x.new z.new }
+// The qubit becomes the Pauli.
+fn set_pauli(x: &mut [u64], z: &mut [u64], qubit: usize, pauli: PauliMatrix)
+    ensures { PauliSet qubit pauli x.old z.old x.new z.new }
 {
-    encoding::set_qubit(x, z, QubitNumber(qubit), pauli_of(c));
+    encoding::set_qubit(x, z, QubitNumber(qubit), pauli);
 }
 
 // Whether a text is that of a row of n qubits, which is then in x and z; they hold nothing when it starts.
@@ -115,12 +94,12 @@ fn scan(n: usize, s: &[u8], x: &mut [u64], z: &mut [u64]) -> bool
 {
     let mut q: usize = 0;
     let mut at: usize = 0;
+    // no `for`: each turn goes on behind what it read
     while at < s.len() {
-        let r = next(n, s, at, q);
-        if !r.ok {
+        let Some(r) = next(n, s, at, q) else {
             return false;
-        }
-        set_letter(x, z, r.qubit, r.letter);
+        };
+        set_pauli(x, z, r.qubit, r.pauli);
         q = r.qubit + 1;
         at = r.at;
     }
@@ -129,26 +108,16 @@ fn scan(n: usize, s: &[u8], x: &mut [u64], z: &mut [u64]) -> bool
 
 // ---- the row
 
-fn copy(out: &mut [u64], s: &[u64])
-    requires { length out.old ≤ length s.now }
-    ensures { out.new ≡ take (length out.old) s.now }
-{
-    let n = out.len();
-    let mut i = 0;
-    while i < n {
-        out[i] = s[i];
-        i += 1;
-    }
-}
-
 // The first words of both parts.
 fn copy_row(x: &mut [u64], z: &mut [u64], xs: &[u64], zs: &[u64])
     requires { (length x.old ≤ length xs.now) × (length z.old ≤ length zs.now) }
     ensures { (x.new ≡ take (length x.old) xs.now)
         × (z.new ≡ take (length z.old) zs.now) }
 {
-    copy(x, xs);
-    copy(z, zs);
+    let n = x.len();
+    x.copy_from_slice(&xs[..n]);
+    let n = z.len();
+    z.copy_from_slice(&zs[..n]);
 }
 
 // The words of the longest row.
@@ -184,9 +153,12 @@ fn parse_at(
         (mem_of m x.new z.new phases.now) result }
 {
     let span = row_span(r, n, m);
-    let a = span.0;
-    let e = span.1;
-    parse_row(n, s, &mut x[a..e], &mut z[a..e])
+    parse_row(
+        n,
+        s,
+        &mut x[span.start..span.end],
+        &mut z[span.start..span.end],
+    )
 }
 
 // A row becomes the row whose text it is.
@@ -198,16 +170,13 @@ pub fn parse_elem(
     phases: &[u64],
     row: RowNumber,
     text: &[u8],
-) -> Answer
+) -> Result<(), Refusal>
     ensures { ParseElem n (mem_of m x.old z.old phases.now) row.0 text.now
         (mem_of m x.new z.new phases.now) result }
 {
-    let f = encoding::row_fault(n, m, x, z, phases, m <= row.0);
-    if f != 0 {
-        return Answer::Refused(f);
-    }
+    encoding::row_fault(&RowSet { n, m, x, z, phases }, m <= row.0)?;
     if parse_at(n, m, x, z, phases, row.0, text) {
-        return Answer::Done;
+        return Ok(());
     }
-    Answer::Refused(13)
+    Err(Refusal::NO_TEXT)
 }

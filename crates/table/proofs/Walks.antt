@@ -3,7 +3,7 @@
 use mathlib.Core.Path.{◌≡◌, refl, sym, ap, ap₂, ◌∙◌, subst}
 use mathlib.Core.List.{List, [], ◌∷◌, ◌++◌}
 use Prim.Native.Nat.{ℕ, zero, suc, ◌+◌, ◌-◌, ◌/◌, ◌%◌, ◌<◌, ◌≤◌, zero-le}
-use native.Mathlib.Nat.{add-zero, zero-add, le_of_suc-le-suc, not-suc-le-zero}
+use native.Mathlib.Nat.{add-zero, le_of_suc-le-suc, not-suc-le-zero}
 use native.Mathlib.Numerals.{add-one}
 use native.Mathlib.Omega.{arith}
 use native.Mathlib.Decide.{dec_lt}
@@ -49,30 +49,25 @@ pub record Walk (goal left a b c d e : ℕ) : Type 0 where
   pub low : e < 4
   pub rest : (e + ahead left a b c d) % 4 ≡ goal
 
-pub walk_none : (k a b c d : ℕ) → Walk (ahead k a b c d % 4) k a b c d 0
-walk_none k a b c d = record { low = omega arith; rest = ap (λ (n : ℕ). n % 4) (zero-add (ahead k a b c d)) }
-
 -- one more summand, taken mod 4
 mods : (e r p t g : ℕ) → (e + (p + t)) % 4 ≡ g → r ≡ p % 4 → ((e + r) % 4 + t) % 4 ≡ g
 mods e r p t g h q = omega arith
 
-pub walk_more : (left : ℕ) {goal a b c d e : ℕ} (r : ℕ) → Walk goal left a b c d e → 0 < left → r ≡ phases (word 2 a b) (word 2 c d) % 4
-    → Walk goal (left - 1) (a / 4) (b / 4) (c / 4) (d / 4) ((e + r) % 4)
-walk_more zero r w h q = absurd (omega arith)
-walk_more (suc k) {goal} {a} {b} {c} {d} {e} r w h q =
-    let step : suc k - 1 ≡ k = omega arith in
+pub walk_more : {left k goal a b c d e : ℕ} (r : ℕ) → Walk goal left a b c d e → left ≡ suc k → r ≡ phases (word 2 a b) (word 2 c d) % 4
+    → Walk goal k (a / 4) (b / 4) (c / 4) (d / 4) ((e + r) % 4)
+walk_more {left} {k} {goal} {a} {b} {c} {d} {e} r w h q =
     record {
       low = omega arith;
       rest =
-          ap (λ (n : ℕ). ((e + r) % 4 + ahead n (a / 4) (b / 4) (c / 4) (d / 4)) % 4) step
-          ∙ mods e r (phases (word 2 a b) (word 2 c d)) (ahead k (a / 4) (b / 4) (c / 4) (d / 4)) goal
-          (ap (λ (n : ℕ). (e + n) % 4) (sym (two-more k a b c d)) ∙ w.rest) q;
+          mods e r (phases (word 2 a b) (word 2 c d)) (ahead k (a / 4) (b / 4) (c / 4) (d / 4)) goal
+          (ap (λ (n : ℕ). (e + n) % 4) (sym (two-more k a b c d)) ∙ rw h at w.rest) q;
     }
 
-pub walk-all : (left : ℕ) {goal a b c d e : ℕ} → Walk goal left a b c d e → left ≤ 0 → e ≡ goal
+pub walk-all : {left goal a b c d e : ℕ} → Walk goal left a b c d e → left ≡ 0 → e ≡ goal
 unfolding word
-walk-all zero w h = omega (arith, w.low, w.rest)
-walk-all (suc k) w h = absurd (omega arith)
+walk-all {left} {goal} {a} {b} {c} {d} {e} w h =
+    let r : (e + ahead 0 a b c d) % 4 ≡ goal = rw h at w.rest in
+    omega (arith, w.low, r)
 
 -- ---- a row: the first qubits of a word, and of a word and more
 
@@ -137,9 +132,6 @@ pub record Rowed (goal left e i : ℕ) (lx lz rx rz : List ℕ) : Type 0 where
   pub rest : (e + summed left (drop i lx) (drop i lz) (drop i rx) (drop i rz)) % 4 ≡ goal
 
 module _ (lx lz rx rz : List ℕ) where
-  pub rowed-none : (k : ℕ) → Rowed (summed k lx lz rx rz % 4) k 0 0 lx lz rx rz
-  rowed-none k = record { low = omega arith; rest = ap (λ (n : ℕ). n % 4) (zero-add (summed k lx lz rx rz)) }
-
   pub rowed-more : {goal left e i : ℕ} (k r : ℕ) → Rowed goal left e i lx lz rx rz → i < shortest₄ lx lz rx rz
       → k ≤ left → k ≤ 32 → left ≤ k + (left - 32) → r ≡ ahead k (get_or lx i 0) (get_or lz i 0) (get_or rx i 0) (get_or rz i 0) % 4
       → Rowed goal (left - k) ((e + r) % 4) (i + 1) lx lz rx rz

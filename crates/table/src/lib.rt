@@ -301,19 +301,17 @@ fn look_word(t: &[u8; 256], k: usize, lx: u64, lz: u64, rx: u64, rz: u64) -> u8
     requires { Ruled t.now }
     ensures { result ≡ phases (word (k + k) lx lz) (word (k + k) rx rz) % 4 }
 {
-    let mut left = k;
     let mut a = lx;
     let mut b = lz;
     let mut c = rx;
     let mut d = rz;
     let mut e: u8 = 0;
-    while left > 0 {
+    for done in 0..k {
         e = (e + look(t, a, b, c, d)) % 4;
-        a = a / 4;
-        b = b / 4;
-        c = c / 4;
-        d = d / 4;
-        left -= 1;
+        a /= 4;
+        b /= 4;
+        c /= 4;
+        d /= 4;
     }
     e
 }
@@ -322,14 +320,14 @@ fn look_word(t: &[u8; 256], k: usize, lx: u64, lz: u64, rx: u64, rz: u64) -> u8
 fn in_word(left: usize) -> usize
     ensures { (result ≤ left) × (result ≤ 32) × (left ≤ result + (left - 32)) }
 {
-    if left < PER_WORD { left } else { PER_WORD }
+    left.min(PER_WORD)
 }
 
-// n/2 rounded up, which never overflows.
+// n/2 rounded up.
 fn rounds(n: usize) -> usize
     ensures { result ≡ lookups n }
 {
-    n / 2 + n % 2
+    n.div_ceil(2)
 }
 
 // The same of two rows: n/2 rounded up look-ups, up to the end of the shortest part.
@@ -340,12 +338,10 @@ fn look_row(t: &[u8; 256], n: usize, lx: &[u64], lz: &[u64], rx: &[u64], rz: &[u
     let m = products::shortest(lx, lz, rx, rz);
     let mut left = rounds(n);
     let mut e: u8 = 0;
-    let mut i = 0;
-    while i < m {
+    for i in 0..m {
         let k = in_word(left);
         e = (e + look_word(t, k, lx[i], lz[i], rx[i], rz[i])) % 4;
         left -= k;
-        i += 1;
     }
     e
 }

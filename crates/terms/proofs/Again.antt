@@ -19,12 +19,12 @@ use Rattle.encoding.proofs.Sets.{read-proper, rows_in}
 use Rattle.encoding.proofs.Again.{lay-passes}
 use Rattle.products.proofs.Xor.{product-x, product-z}
 use Rattle.reduction.specs.Rule.{mul_at}
+use Rattle.std.specs.Prelude.{Ok}
 use Rattle.terms.specs.Calls.{Multiplies}
-use Rattle.terms.specs.declared.Clashes.TheVariants as clash
 use Rattle.terms.proofs.Meaning.{given}
 use Rattle.terms.proofs.Finished.{proper-mul}
 
-module _ (n a b : ℕ) {M M' : Mem} {d : ℕ} (c : Multiplies n a b M M' (clash.Number d)) where
+module _ (n a b : ℕ) {M M' : Mem} {d : ℕ} (c : Multiplies n a b M M' (Ok d)) where
   none-fits : by_rank (rows_lines n M a b) ≡ 0
   none-fits = (given (by_rank (rows_lines n M a b)) (clashes_of n (rows_of n M a) (rows_of n M b)) d (sym c.answer)).0
 

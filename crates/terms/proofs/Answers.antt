@@ -12,12 +12,11 @@ use lib.Seq.{length-take-le, ext_get_or, get_or-take, get_or-set_same, get_or-se
 use borrow.Author.Tests.{leb-false}
 use Rattle.pauli.specs.Row.{Row, mul_row, bit_row}
 use Rattle.encoding.specs.Limits.{max_qubits, max_rows, words_of}
-use Rattle.encoding.specs.Set.{Mem, count, rows_of, lay, Valid, Sound}
-use Rattle.encoding.specs.Refusals.{too_large, set_lines, rows_lines, Readable, left_or}
+use Rattle.encoding.specs.Set.{Mem, count, rows_of, lay, Sound}
+use Rattle.encoding.specs.Refusals.{too_large, set_lines, Readable, left_or}
 use Rattle.encoding.proofs.Scan.{none_of}
-use Rattle.encoding.proofs.Faults.{refusing, or_else, or-first}
+use Rattle.encoding.proofs.Faults.{or_else}
 use Rattle.encoding.proofs.Memory.{laid}
-use Rattle.encoding.proofs.Sets.{sound-of}
 use Rattle.encoding.proofs.Parts.{length-list, get_or-list}
 use Rattle.reduction.specs.Rule.{mul_at}
 use Rattle.reduction.specs.Log.{pairs, logged, capacity}
@@ -26,15 +25,13 @@ use Rattle.reduction.specs.Workers.{through, column_c}
 use Rattle.reduction.proofs.Lists.{in-get_or, in_left, in_right}
 use Rattle.reduction.proofs.Log.{length-first, logged-is}
 use Rattle.reduction.proofs.Stop.{stops-is-capped}
-use Rattle.late.specs.declared.Progress.{Progress}
-use Rattle.terms.specs.declared.Canonicalized.{Canonicalized}
-use Rattle.terms.specs.declared.Canonicalized.TheVariants.{Done, Full, Refused}
+use Rattle.late.specs.Workers.{Come}
+use Rattle.terms.specs.Calls.{ReductionAnswer, Done, LogFull, RefusedBy}
 use Rattle.encoding.specs.Ranks.{by_rank}
 use Rattle.terms.specs.Refused.{list_lines, reduce_fault, Reducible}
 use Rattle.pauli.specs.Rows.{clashes_of}
-use Rattle.terms.specs.declared.Clashes.TheVariants as clash
 use Rattle.terms.specs.Workers.{mul_in, clashes_in, Below, run_of, outcome, start, Does, ListsIn}
-use Rattle.terms.specs.Calls.{clashes_or, Multiplies, answer_of, number_for, rows_left, entries_left, Leaves, outcome_of, whole_outcome, up_to}
+use Rattle.terms.specs.Calls.{answer_of, number_for, rows_left, entries_left, Leaves, outcome_of, whole_outcome, up_to}
 use Rattle.encoding.proofs.Ranks.{rank-append}
 use Rattle.terms.proofs.Scans.{asked_of, order-once}
 use Rattle.terms.proofs.RowView.{mul-view, clashes-view}
@@ -42,23 +39,12 @@ use Rattle.terms.proofs.RowView.{mul-view, clashes-view}
 -- ---- what no refusal leaves
 
 -- the set's number comes before those of the lists
-module _ (n : ℕ) (M : Mem) {f : ℕ} (ef : f ≡ by_rank (set_lines n M)) (v : f ≡ 0 → Valid n (words_of n) M) (order listed extra : List ℕ) where
-  by_parts : or_else f (by_rank (list_lines n (count M) order listed extra)) ≡ reduce_fault n M order listed extra
-  by_parts =
-      ap (λ k. or_else k (by_rank (list_lines n (count M) order listed extra))) ef
-      ∙ sym (rank-append (set_lines n M) (list_lines n (count M) order listed extra) refl)
+pub by_parts : (n : ℕ) (M : Mem) (order listed extra : List ℕ) → or_else (by_rank (set_lines n M)) (by_rank (list_lines n (count M) order listed extra)) ≡ reduce_fault n M order listed extra
+by_parts n M order listed extra = sym (rank-append (set_lines n M) (list_lines n (count M) order listed extra) refl)
 
-  pub reduce-first : (f ≡ 0 → ⊥) → (f ≡ reduce_fault n M order listed extra) × (f ≡ 0 → Reducible n order listed extra M)
-  reduce-first ne = (sym (or-first f (by_rank (list_lines n (count M) order listed extra)) ne) ∙ by_parts, λ z. absurd (ne z))
-
-  pub reduce-told : (g : ℕ) → f ≡ 0 → g ≡ by_rank (list_lines n (count M) order listed extra)
-      → (g ≡ reduce_fault n M order listed extra) × (g ≡ 0 → Reducible n order listed extra M)
-  reduce-told g z eg = (
-    eg ∙ sym (ap (λ k. or_else k (by_rank (list_lines n (count M) order listed extra))) z) ∙ by_parts,
-    λ e.
-        let q = sym eg ∙ e in
-        record { sound = sound-of n M ef v z; asked = asked_of n (count M) order listed extra q; columns-once = order-once n (count M) order listed extra q },
-  )
+pub reduce-told : (n : ℕ) (M : Mem) (order listed extra : List ℕ) → Sound n M → by_rank (list_lines n (count M) order listed extra) ≡ 0 → Reducible n order listed extra M
+reduce-told n M order listed extra s e =
+    record { sound = s; asked = asked_of n (count M) order listed extra e; columns-once = order-once n (count M) order listed extra e }
 
 -- the numbers of the lists by their places
 pub lists-in : {n : ℕ} {order listed extra : List ℕ} {M : Mem} → Reducible n order listed extra M → ListsIn n order listed extra M
@@ -73,27 +59,18 @@ lists-in {n} {order} {listed} {extra} {M} r =
 -- ---- the product of two rows
 
 module _ (n a b : ℕ) (M : Mem) where
-  pub imul-refused : {f : ℕ} → f ≡ by_rank (rows_lines n M a b) → (f ≡ 0 → ⊥) → Multiplies n a b M M (clash.Refused f)
-  imul-refused e ne =
-      record {
-        answer = refusing clash.Refused (λ k. clashes_or k (clashes_of n (rows_of n M a) (rows_of n M b))) (λ k. refl) e ne;
-        rows = refusing (λ k. M) (λ k. left_or k M (lay n (count M) (mul_at (mul_row n) (rows_of n M) a b))) (λ k. refl) e ne;
-      }
-
-  pub imul-done : {f c : ℕ} {M' : Mem} → f ≡ by_rank (rows_lines n M a b) → f ≡ 0 → Readable n M (too_large (count M) a || too_large (count M) b)
-      → (M' ≡ mul_in n a b M) × (c ≡ clashes_in n a b M) → Multiplies n a b M M' (clash.Number c)
-  imul-done {f} {c} {M'} e z h q =
+  pub imul-done : {c : ℕ} {M' : Mem} → Readable n M (too_large (count M) a || too_large (count M) b)
+      → (M' ≡ mul_in n a b M) × (c ≡ clashes_in n a b M)
+      → (M' ≡ lay n (count M) (mul_at (mul_row n) (rows_of n M) a b)) × (c ≡ clashes_of n (rows_of n M a) (rows_of n M b))
+  imul-done h q =
       let p = none_of (too_large (count M) a) (too_large (count M) b) h.small in
       let a_in = leb-false (count M) a p.0 in
       let b-in = leb-false (count M) b p.1 in
-      record {
-        answer = ap clash.Number (q.1 ∙ clashes-view h.ready a b a_in b-in) ∙ ap (λ k. clashes_or k (clashes_of n (rows_of n M a) (rows_of n M b))) (sym z ∙ e);
-        rows = q.0 ∙ (mul-view h.ready a b a_in b-in).laid_out ∙ ap (λ k. left_or k M (lay n (count M) (mul_at (mul_row n) (rows_of n M) a b))) (sym z ∙ e);
-      }
+      (q.0 ∙ (mul-view h.ready a b a_in b-in).laid_out, q.1 ∙ clashes-view h.ready a b a_in b-in)
 
 -- ---- reduction
 
-pub reduce-refused : (n f g : ℕ) (out : Reduced Row) (M : Mem) (log : List ℕ) → g ≡ f → (g ≡ 0 → ⊥) → Leaves n f out M log M log (Refused g)
+pub reduce-refused : (n f g : ℕ) (out : Reduced Row) (M : Mem) (log : List ℕ) → g ≡ f → (g ≡ 0 → ⊥) → Leaves n f out M log M log (RefusedBy g)
 reduce-refused n f zero out M log e ne = absurd (ne refl)
 reduce-refused n f (suc g) out M log e ne =
     record {
@@ -104,10 +81,10 @@ reduce-refused n f (suc g) out M log e ne =
     }
 
 -- no number fits
-pub leaves_at : {n f : ℕ} {out : Reduced Row} {M : Mem} {log : List ℕ} {M' : Mem} {log' : List ℕ} {r : Canonicalized} → 0 ≡ f → Leaves n 0 out M log M' log' r → Leaves n f out M log M' log' r
+pub leaves_at : {n f : ℕ} {out : Reduced Row} {M : Mem} {log : List ℕ} {M' : Mem} {log' : List ℕ} {r : ReductionAnswer} → 0 ≡ f → Leaves n 0 out M log M' log' r → Leaves n f out M log M' log' r
 leaves_at {n} {f} {out} {M} {log} {M'} {log'} {r} e L = subst (λ k. Leaves n k out M log M' log' r) e L
 
-module _ (n : ℕ) (order listed extra : List ℕ) {M₀ : Mem} {log₀ : List ℕ} {M : Mem} {log : List ℕ} {s : Progress}
+module _ (n : ℕ) (order listed extra : List ℕ) {M₀ : Mem} {log₀ : List ℕ} {M : Mem} {log : List ℕ} {s : Come}
     (L : Does n (through (column_c (bit_row n) (mul_row n) (capacity log₀) listed extra) order) M₀ log₀ start M log s) where
   out : Reduced Row
   out = capped (bit_row n) (mul_row n) (capacity log₀) order listed extra (rows_of n M₀)
@@ -130,19 +107,19 @@ module _ (n : ℕ) (order listed extra : List ℕ) {M₀ : Mem} {log₀ : List �
   ends-done q =
       let e : done (run_of n M log s) ≡ capped (bit_row n) (mul_row n) (capacity log₀) order listed extra (rows_of n M₀) = sym (ap (λ b. outcome b (run_of n M log s)) q) ∙ whole in
       record {
-        answer = ap (λ k. Done k s.t) (sym there) ∙ ap (answer_of 0 (capacity log₀)) e;
+        answer = ap (λ (k : ℕ). Done k s.t) (sym there) ∙ ap (answer_of 0 (capacity log₀)) e;
         number = ap (number_for 0) e;
         rows = rows-laid ∙ ap (λ o. lay n (count M₀) (rows_left o)) e;
         entries = log-laid ∙ ap (λ o. logged (entries_left o) log₀) e;
       }
 
-  pub ends-full : s.full ≡ true → Leaves n 0 (capped (bit_row n) (mul_row n) (capacity log₀) order listed extra (rows_of n M₀)) M₀ log₀ M log (Full (capacity log))
+  pub ends-full : s.full ≡ true → Leaves n 0 (capped (bit_row n) (mul_row n) (capacity log₀) order listed extra (rows_of n M₀)) M₀ log₀ M log (LogFull (capacity log))
   unfolding outcome run_of
   ends-full q =
       let e : full (pairs (take (s.entries + s.entries) log)) (rows_of n M) ≡ capped (bit_row n) (mul_row n) (capacity log₀) order listed extra (rows_of n M₀)
       = sym (ap (λ b. outcome b (run_of n M log s)) q) ∙ whole in
       record {
-        answer = ap (λ k. Full (k / 2)) L.log-len ∙ ap (answer_of 0 (capacity log₀)) e;
+        answer = ap (λ (k : ℕ). LogFull (k / 2)) L.log-len ∙ ap (answer_of 0 (capacity log₀)) e;
         number = ap (number_for 0) e;
         rows = rows-laid ∙ ap (λ o. lay n (count M₀) (rows_left o)) e;
         entries = log-laid ∙ ap (λ o. logged (entries_left o) log₀) e;
@@ -193,6 +170,6 @@ module _ {n : ℕ} {M : Mem} (s : Sound n M) {columns rows : List ℕ} (ec : col
         extra-in = λ i h. absurd (omega arith);
       }
 
-  pub leaves_all : {log : List ℕ} {M' : Mem} {log' : List ℕ} {r : Canonicalized} → Leaves n 0 (outcome_of n (take (n + n - 0) columns) (take (count M - 0) rows) [] M log) M log M' log' r
+  pub leaves_all : {log : List ℕ} {M' : Mem} {log' : List ℕ} {r : ReductionAnswer} → Leaves n 0 (outcome_of n (take (n + n - 0) columns) (take (count M - 0) rows) [] M log) M log M' log' r
       → Leaves n 0 (whole_outcome n M log) M log M' log' r
   leaves_all {log} {M'} {log'} {r} L = subst (λ o. Leaves n 0 o M log M' log' r) (ap₂ (λ u v. outcome_of n u v [] M log) columns-part rows-part) L

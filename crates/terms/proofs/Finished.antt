@@ -31,11 +31,12 @@ use Rattle.reduction.proofs.Log.{pairs-units, cut-logged}
 use Rattle.reduction.proofs.Stop.{run_fits, run-stops}
 use Rattle.reduction.proofs.Theorems.{log-replays, entries-good, entries-most, pivots-listed, pivots-columns, full-exactly, log-full}
 use Rattle.reduction.proofs.PauliRows.{rows-laws}
-use Rattle.terms.specs.declared.Canonicalized.{Canonicalized}
-use Rattle.terms.specs.declared.Canonicalized.TheVariants.{Done, Full, Refused}
+use Rattle.terms.specs.Calls.{ReductionAnswer}
+use Rattle.terms.specs.Calls.{Done, LogFull, RefusedBy}
+use Rattle.std.specs.Prelude.{Ok, Err}
 use Rattle.encoding.specs.Ranks.{by_rank, TableLine}
 use Rattle.terms.specs.Refused.{list_lines, reduce_fault}
-use Rattle.terms.specs.Calls.{answer_of, rows_left, entries_left, outcome_of, Reduces}
+use Rattle.terms.specs.Calls.{ReductionAnswer, reduced_number, answer_of, rows_left, entries_left, outcome_of, Reduces}
 use Rattle.encoding.proofs.Ranks.{Given, given-iff, rank-append}
 use Rattle.terms.proofs.Scans.{asked_of, order-once}
 
@@ -73,9 +74,18 @@ pub record Finished (n : ℕ) (order listed extra : List ℕ) (M : Mem) (M' : Me
   pub as_many : count M' ≡ count M
   pub laid_out : M' ≡ lay n (count M) (reduce (bit_row n) (mul_row n) order listed extra (rows_of n M)).rows
 
+entries_in : ReductionAnswer → ℕ
+entries_in (Ok c) = c.entries
+entries_in (Err e) = 0
+
+pivots_in : ReductionAnswer → ℕ
+pivots_in (Ok c) = c.t
+pivots_in (Err e) = 0
+
 -- which answer it was
 done-only : (f room : ℕ) (out : Reduced Row) (k t : ℕ) → Done k t ≡ answer_of f room out → (f ≡ 0) × ((s : Run Row) × (out ≡ done s) × (k ≡ length s.log) × (t ≡ s.t))
-done-only zero room (done s) k t e = (refl, (s, refl, (cc), (cc)))
+unfolding entries_in pivots_in
+done-only zero room (done s) k t e = (refl, (s, refl, ap entries_in e, ap pivots_in e))
 done-only zero room (full l σ) k t e = absurd (let z : ◌≡◌ {A = ℕ} 0 1 = cc in omega arith)
 done-only (suc f) room out k t e = absurd (let z : ◌≡◌ {A = ℕ} 0 1 = cc in omega arith)
 
@@ -174,14 +184,14 @@ module _ (n : ℕ) (order listed extra : List ℕ) (M : Mem) (log : List ℕ) {M
 -- ---- refusal 8
 
 -- which answer it was
-full-only : (f room : ℕ) (out : Reduced Row) (c : ℕ) → Full c ≡ answer_of f room out → (f ≡ 0) × ((l : List Entry) × (σ : ℕ → Row) × (out ≡ full l σ))
+full-only : (f room : ℕ) (out : Reduced Row) (c : ℕ) → LogFull c ≡ answer_of f room out → (f ≡ 0) × ((l : List Entry) × (σ : ℕ → Row) × (out ≡ full l σ))
 full-only zero room (done s) c e = absurd (let z : ◌≡◌ {A = ℕ} 0 1 = cc in omega arith)
 full-only zero room (full l σ) c e = (refl, (l, σ, refl))
 full-only (suc f) room out c e = absurd (let z : ◌≡◌ {A = ℕ} 0 1 = cc in omega arith)
 
-module _ (n : ℕ) (order listed extra : List ℕ) (M : Mem) (log : List ℕ) {M' : Mem} {log' : List ℕ} {r : Canonicalized} (L : Reduces n order listed extra M log M' log' r) where
+module _ (n : ℕ) (order listed extra : List ℕ) (M : Mem) (log : List ℕ) {M' : Mem} {log' : List ℕ} {r : ReductionAnswer} (L : Reduces n order listed extra M log M' log' r) where
   -- the log is full exactly when nothing is refused before the work, and the rule needs more entries than fit
-  pub full-when : (r ≡ Full (capacity log)) ↔ ((reduce_fault n M order listed extra ≡ 0) × (capacity log < length (reduce (bit_row n) (mul_row n) order listed extra (rows_of n M)).log))
+  pub full-when : (r ≡ LogFull (capacity log)) ↔ ((reduce_fault n M order listed extra ≡ 0) × (capacity log < length (reduce (bit_row n) (mul_row n) order listed extra (rows_of n M)).log))
   full-when = (
     λ e.
         let d = full-only (reduce_fault n M order listed extra) (capacity log) (outcome_of n order listed extra M log) (capacity log) (sym e ∙ L.answer) in
@@ -191,7 +201,7 @@ module _ (n : ℕ) (order listed extra : List ℕ) (M : Mem) (log : List ℕ) {M
   )
 
   -- it then holds exactly the first entries that fit, and the rows are those after these
-  pub full-leaves : r ≡ Full (capacity log) → let es = take (capacity log) (reduce (bit_row n) (mul_row n) order listed extra (rows_of n M)).log in
+  pub full-leaves : r ≡ LogFull (capacity log) → let es = take (capacity log) (reduce (bit_row n) (mul_row n) order listed extra (rows_of n M)).log in
       ((M' ≡ lay n (count M) (replay (mul_row n) (rows_of n M) es)) × (log' ≡ logged es log))
   full-leaves e =
       let h = full-when.0 e in
@@ -201,7 +211,7 @@ module _ (n : ℕ) (order listed extra : List ℕ) (M : Mem) (log : List ℕ) {M
       )
 
   -- room for (the smaller of 2n and the listed rows) times d entries is always enough
-  pub log-enough : min (n + n) (length listed) * different (listed ++ extra) ≤ capacity log → r ≡ Full (capacity log) → ⊥
+  pub log-enough : min (n + n) (length listed) * different (listed ++ extra) ≤ capacity log → r ≡ LogFull (capacity log) → ⊥
   log-enough room e =
       let h = full-when.0 e in
       let σ = rows_of n M in
@@ -212,10 +222,10 @@ module _ (n : ℕ) (order listed extra : List ℕ) (M : Mem) (log : List ℕ) {M
 
 -- ---- the numbers that are tested first: k + 1 is given exactly when its line of the table fits and none before it does
 
-refused-only : (room : ℕ) (o : Reduced Row) (f k : ℕ) → answer_of f room o ≡ Refused (suc k) → f ≡ suc k
+refused-only : (room : ℕ) (o : Reduced Row) (f k : ℕ) → answer_of f room o ≡ RefusedBy (suc k) → f ≡ suc k
 refused-only room (done s) zero k e = let z : ◌≡◌ {A = ℕ} 0 1 = cc in absurd (omega arith)
 refused-only room (full l σ) zero k e = let z : ◌≡◌ {A = ℕ} 0 1 = cc in absurd (omega arith)
-refused-only room o (suc f) k e = cc
+refused-only room o (suc f) k e = ap reduced_number e
 
-pub canonicalized-refused : (room : ℕ) (out : Reduced Row) (ls : List TableLine) (k : ℕ) → (answer_of (by_rank ls) room out ≡ Refused (suc k)) ↔ Given (suc k) ls
-canonicalized-refused room out = given-iff Refused (λ f. answer_of f room out) (λ k. refl) (refused-only room out)
+pub canonicalized-refused : (room : ℕ) (out : Reduced Row) (ls : List TableLine) (k : ℕ) → (answer_of (by_rank ls) room out ≡ RefusedBy (suc k)) ↔ Given (suc k) ls
+canonicalized-refused room out = given-iff RefusedBy (λ f. answer_of f room out) (λ k. refl) (refused-only room out)

@@ -3,7 +3,7 @@
 use mathlib.Core.Path.{◌≡◌, refl, sym, ap, ◌∙◌, subst}
 use mathlib.Core.Bool.{cond}
 use mathlib.Core.Logic.{◌↔◌}
-use Prim.Native.Nat.{ℕ, zero, suc, ◌*◌, ◌%◌, ◌≤◌, ◌<◌}
+use Prim.Native.Nat.{ℕ, ◌*◌, ◌%◌, ◌≤◌, ◌<◌}
 use native.Mathlib.Omega.{arith}
 use borrow.Author.Tests.{eq-eqb, ne_eqb}
 use Rattle.pauli.specs.Row.{Row, mul_row}
@@ -14,20 +14,20 @@ use Rattle.pauli.proofs.RowTests.{row-with-itself}
 use Rattle.encoding.proofs.Sets.{rows_in, read-proper}
 use Rattle.encoding.specs.Limits.{words_of}
 use Rattle.encoding.specs.Set.{Mem, count, rows_of, lay}
-use Rattle.encoding.specs.Refusals.{rows_lines, left_or}
+use Rattle.encoding.specs.Refusals.{rows_lines, answer_or, left_or}
 use Rattle.encoding.specs.Ranks.{by_rank}
+use Rattle.std.specs.Prelude.{Ok}
+use Rattle.encoding.proofs.Faults.{value-is}
 use Rattle.encoding.proofs.Memory.{Proper, read-lay}
 use Rattle.reduction.specs.Rule.{mul_at}
-use Rattle.terms.specs.Calls.{Multiplies, clashes_or}
-use Rattle.terms.specs.declared.Clashes.TheVariants as clash
+use Rattle.terms.specs.Calls.{Multiplies}
 use Rattle.terms.proofs.Finished.{proper-mul}
 
 -- a number was answered, so nothing was refused
-pub given : (f v d : ℕ) → clashes_or f v ≡ clash.Number d → (f ≡ 0) × (v ≡ d)
-given zero v d e = (refl, cc)
-given (suc k) v d e = let z : ◌≡◌ {A = ℕ} 0 1 = cc in absurd (omega arith)
+pub given : (f v d : ℕ) → answer_or f v ≡ Ok d → (f ≡ 0) × (v ≡ d)
+given = value-is
 
-module _ (n a b : ℕ) {M M' : Mem} {d : ℕ} (c : Multiplies n a b M M' (clash.Number d)) where
+module _ (n a b : ℕ) {M M' : Mem} {d : ℕ} (c : Multiplies n a b M M' (Ok d)) where
   no-fault : by_rank (rows_lines n M a b) ≡ 0
   no-fault = (given (by_rank (rows_lines n M a b)) (clashes_of n (rows_of n M a) (rows_of n M b)) d (sym c.answer)).0
 

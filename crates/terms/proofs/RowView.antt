@@ -18,8 +18,10 @@ use Rattle.encoding.proofs.RowWords.{clashes-fit}
 use Rattle.encoding.proofs.Memory.{laid}
 use Rattle.pauli.specs.Rows.{clashes_of}
 use Rattle.reduction.specs.Rule.{mul_at, first}
+use Rattle.std.specs.Prelude.{Some, None}
+pub use Rattle.late.proofs.Places.{from_is, from_past}
 use Rattle.reduction.proofs.Places.{from_some, from-none}
-use Rattle.terms.specs.Workers.{column_of, bit_in, first_place, mul_in, clashes_in, Keeps, Below}
+use Rattle.terms.specs.Workers.{column_of, bit_in, first_place, place_from, mul_in, clashes_in, Keeps, Below}
 use Rattle.encoding.proofs.Parts.{get_d_part}
 use Rattle.tabled.specs.Workers.{put_at}
 use Rattle.late.specs.Workers.{word_bit}
@@ -53,19 +55,24 @@ bit-view {n} {M} s k c hk hc = sym (bit-within n M.xs M.zs k c s.few-qubits (ome
 -- ---- the first place
 
 -- the place that the search gives, from t on
-module _ {n : ℕ} {M : Mem} (s : Sound n M) (l : List ℕ) (t c r : ℕ) (ht : t ≤ length l) (hl : Below (count M) l) (hc : c < n + n)
-    (e : r ≡ t + first_place (λ k. bit_in n M.xs M.zs k c) (drop t l)) where
+module _ {n : ℕ} {M : Mem} (s : Sound n M) (l : List ℕ) (t c : ℕ) (ht : t ≤ length l) (hl : Below (count M) l) (hc : c < n + n) where
   tells : (i : ℕ) → i < length l → bit_in n M.xs M.zs (get_or l i 0) c ≡ bit_row n (rows_of n M (get_or l i 0)) c
   tells i h = bit-view s (get_or l i 0) c (hl i h) hc
 
-  pub find-some : r < length l → first (bit_row n) (rows_of n M) c (drop t l) ≡ some (get_or l r 0)
-  find-some = from_some (bit_row n) (rows_of n M) c (λ k. bit_in n M.xs M.zs k c) l t r ht tells e
+  pub record Place (r : ℕ) : Type 0 where
+    pub from : t ≤ r
+    pub inside : r < length l
+    pub there : first (bit_row n) (rows_of n M) c (drop t l) ≡ some (get_or l r 0)
 
-  pub find_none : length l ≤ r → first (bit_row n) (rows_of n M) c (drop t l) ≡ none
-  find_none = from-none (bit_row n) (rows_of n M) c (λ k. bit_in n M.xs M.zs k c) l t r ht tells e
+  pub find-some : {r : ℕ} → place_from (λ k. bit_in n M.xs M.zs k c) t l ≡ Some r → Place r
+  find-some {r} e =
+      let p = from_is (λ k. bit_in n M.xs M.zs k c) t l e in
+      record { from = omega (arith, p.0); inside = p.1; there = from_some (bit_row n) (rows_of n M) c (λ k. bit_in n M.xs M.zs k c) l t r ht tells p.0 p.1 }
 
-  pub find-from : t ≤ r
-  find-from = omega arith
+  pub find_none : place_from (λ k. bit_in n M.xs M.zs k c) t l ≡ None → first (bit_row n) (rows_of n M) c (drop t l) ≡ none
+  find_none e =
+      from-none (bit_row n) (rows_of n M) c (λ k. bit_in n M.xs M.zs k c) l t (t + first_place (λ k. bit_in n M.xs M.zs k c) (drop t l)) ht tells refl
+      (from_past (λ k. bit_in n M.xs M.zs k c) t l e)
 
 -- ---- a product in place
 

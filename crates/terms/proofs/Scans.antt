@@ -1,5 +1,6 @@
 -- Scans of an order and of lists: a number too large, a number there twice; and that nothing refused is what the theorems ask. Marks are set for the numbers passed,
 -- so that a number is there twice exactly if it finds one. Assumes nothing.
+pub use Rattle.late.proofs.Words.{any_some, all_every}
 use mathlib.Core.Path.{◌≡◌, refl, sym, ap, ap₂, ◌∙◌, subst}
 use mathlib.Core.Logic.{⊎_elim}
 use mathlib.Core.Bool.{Bool, true, false, cond, not, ◌&&◌, ◌||◌}

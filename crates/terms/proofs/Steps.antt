@@ -16,7 +16,7 @@ use Rattle.reduction.specs.Log.{pairs, capacity}
 use Rattle.reduction.specs.Capacity.{Reduced, done, full}
 use Rattle.reduction.specs.Workers.{and_then, through, multiply_c}
 use Rattle.reduction.proofs.Log.{length-first}
-use Rattle.late.specs.declared.Progress.{Progress}
+use Rattle.late.specs.Workers.{Come}
 use Rattle.terms.specs.Workers.{mul_in, Keeps, Ready, run_of, outcome, Does}
 use Rattle.late.proofs.Turning.{logged-two}
 use Rattle.late.proofs.View.{keeps-none, keeps_then}
@@ -24,7 +24,7 @@ use Rattle.terms.proofs.RowView.{Held, mul-view}
 
 -- ---- pieces
 
-module _ {n : ℕ} {M₀ : Mem} {log₀ : List ℕ} {s₀ : Progress} {M : Mem} {log : List ℕ} {s : Progress} where
+module _ {n : ℕ} {M₀ : Mem} {log₀ : List ℕ} {s₀ : Come} {M : Mem} {log : List ℕ} {s : Come} where
   -- the same for an equal piece
   pub does-as : {f g : Run Row → Reduced Row} → f (run_of n M₀ log₀ s₀) ≡ g (run_of n M₀ log₀ s₀) → Does n f M₀ log₀ s₀ M log s → Does n g M₀ log₀ s₀ M log s
   does-as e L = record { result = L.result ∙ e; grows = L.grows; room = L.room; keeps = L.keeps; log-len = L.log-len; past = L.past }
@@ -34,7 +34,7 @@ module _ {n : ℕ} {M₀ : Mem} {log₀ : List ℕ} {s₀ : Progress} {M : Mem} 
   ready-next L e = record { sound = L.keeps.sound; room = L.room; going = e }
 
 -- nothing is done
-pub does-none : {n : ℕ} {M : Mem} {log : List ℕ} {s : Progress} → Ready n M log s → Does n done M log s M log s
+pub does-none : {n : ℕ} {M : Mem} {log : List ℕ} {s : Come} → Ready n M log s → Does n done M log s M log s
 unfolding outcome
 does-none {n} {M} {log} {s} h =
     record {
@@ -47,7 +47,7 @@ does-none {n} {M} {log} {s} h =
     }
 
 -- one piece after another; and a piece that is full
-pub does-then : {n : ℕ} {M₀ : Mem} {log₀ : List ℕ} {s₀ : Progress} {M₁ : Mem} {log₁ : List ℕ} {s₁ : Progress} {M : Mem} {log : List ℕ} {s : Progress} {f g : Run Row → Reduced Row}
+pub does-then : {n : ℕ} {M₀ : Mem} {log₀ : List ℕ} {s₀ : Come} {M₁ : Mem} {log₁ : List ℕ} {s₁ : Come} {M : Mem} {log : List ℕ} {s : Come} {f g : Run Row → Reduced Row}
     → Does n f M₀ log₀ s₀ M₁ log₁ s₁ → s₁.full ≡ false → Does n g M₁ log₁ s₁ M log s → Does n (λ r. and_then (f r) g) M₀ log₀ s₀ M log s
 unfolding and_then outcome
 does-then {n} {M₀} {log₀} {s₀} {M₁} {log₁} {s₁} {M} {log} {s} {f} {g} K e L =
@@ -60,7 +60,7 @@ does-then {n} {M₀} {log₀} {s₀} {M₁} {log₁} {s₁} {M} {log} {s} {f} {g
       past = λ j hj. L.past j hj ∙ K.past j (omega (arith, L.grows));
     }
 
-pub does-full : {n : ℕ} {M₀ : Mem} {log₀ : List ℕ} {s₀ : Progress} {M : Mem} {log : List ℕ} {s : Progress} {f : Run Row → Reduced Row} (g : Run Row → Reduced Row)
+pub does-full : {n : ℕ} {M₀ : Mem} {log₀ : List ℕ} {s₀ : Come} {M : Mem} {log : List ℕ} {s : Come} {f : Run Row → Reduced Row} (g : Run Row → Reduced Row)
     → Does n f M₀ log₀ s₀ M log s → s.full ≡ true → Does n (λ r. and_then (f r) g) M₀ log₀ s₀ M log s
 unfolding and_then outcome
 does-full {n} {M₀} {log₀} {s₀} {M} {log} {s} {f} g K e =
@@ -80,7 +80,7 @@ does-full {n} {M₀} {log₀} {s₀} {M} {log} {s} {f} g K e =
 run-eq : {σ σ' : ℕ → Row} {l l' : List Entry} (t : ℕ) → σ ≡ σ' → l ≡ l' → ◌≡◌ {A = Run Row} (record { rows = σ; log = l; t = t }) (record { rows = σ'; log = l'; t = t })
 run-eq t p q = λ i. record { rows = p i; log = q i; t = t }
 
-module _ {n : ℕ} {M : Mem} {log : List ℕ} {s : Progress} (ready : Ready n M log s) (a b : ℕ) where
+module _ {n : ℕ} {M : Mem} {log : List ℕ} {s : Come} (ready : Ready n M log s) (a b : ℕ) where
   there : length (pairs (take (s.entries + s.entries) log)) ≡ s.entries
   there = length-first s.entries log ready.room
 
@@ -119,7 +119,7 @@ module _ {n : ℕ} {M : Mem} {log : List ℕ} {s : Progress} (ready : Ready n M 
 -- ---- a loop over a list
 
 -- what is left of the list, done from here, gives what the whole list gives from the start
-pub record Going (n : ℕ) (f : ℕ → Run Row → Reduced Row) (list : List ℕ) (M₀ : Mem) (log₀ : List ℕ) (s₀ : Progress) (M : Mem) (log : List ℕ) (s : Progress) (i : ℕ) : Type 0 where
+pub record Going (n : ℕ) (f : ℕ → Run Row → Reduced Row) (list : List ℕ) (M₀ : Mem) (log₀ : List ℕ) (s₀ : Come) (M : Mem) (log : List ℕ) (s : Come) (i : ℕ) : Type 0 where
   pub place : i ≤ length list
   pub ready : Ready n M log s
   pub grows : s₀.entries ≤ s.entries
@@ -128,16 +128,16 @@ pub record Going (n : ℕ) (f : ℕ → Run Row → Reduced Row) (list : List �
   pub past : (j : ℕ) → s.entries + s.entries ≤ j → get_or log j 0 ≡ get_or log₀ j 0
   pub left : through f (drop i list) (run_of n M log s) ≡ through f list (run_of n M₀ log₀ s₀)
 
-pub going_start : {n : ℕ} {M : Mem} {log : List ℕ} {s : Progress} (f : ℕ → Run Row → Reduced Row) (list : List ℕ) → Ready n M log s → Going n f list M log s M log s 0
+pub going_start : {n : ℕ} {M : Mem} {log : List ℕ} {s : Come} (f : ℕ → Run Row → Reduced Row) (list : List ℕ) → Ready n M log s → Going n f list M log s M log s 0
 going_start f list h = record { place = omega arith; ready = h; grows = omega arith; keeps = keeps-none h.sound; log-len = refl; past = λ _ _. refl; left = refl }
 
-module _ {n : ℕ} {f : ℕ → Run Row → Reduced Row} {list : List ℕ} {M₀ : Mem} {log₀ : List ℕ} {s₀ : Progress} {M : Mem} {log : List ℕ} {s : Progress} {i : ℕ}
+module _ {n : ℕ} {f : ℕ → Run Row → Reduced Row} {list : List ℕ} {M₀ : Mem} {log₀ : List ℕ} {s₀ : Come} {M : Mem} {log : List ℕ} {s : Come} {i : ℕ}
     (g : Going n f list M₀ log₀ s₀ M log s i) where
   through-at : i < length list → through f (drop i list) (run_of n M log s) ≡ and_then (f (get_or list i 0) (run_of n M log s)) (λ r. through f (drop (i + 1) list) r)
   unfolding through
   through-at h = rw (add-one, drop-cons list i 0 h)
 
-  pub going_next : {M' : Mem} {log' : List ℕ} {s' : Progress} → i < length list → s'.full ≡ false → Does n (f (get_or list i 0)) M log s M' log' s' → Going n f list M₀ log₀ s₀ M' log' s' (i + 1)
+  pub going_next : {M' : Mem} {log' : List ℕ} {s' : Come} → i < length list → s'.full ≡ false → Does n (f (get_or list i 0)) M log s M' log' s' → Going n f list M₀ log₀ s₀ M' log' s' (i + 1)
   unfolding and_then outcome
   going_next {M'} {log'} {s'} h e L =
       record {
@@ -150,7 +150,7 @@ module _ {n : ℕ} {f : ℕ → Run Row → Reduced Row} {list : List ℕ} {M₀
         left = sym (through-at h ∙ ap (λ r. and_then r (λ r'. through f (drop (i + 1) list) r')) (sym L.result ∙ ap (λ b. outcome b (run_of n M' log' s')) e)) ∙ g.left;
       }
 
-  pub going-full : {M' : Mem} {log' : List ℕ} {s' : Progress} → i < length list → s'.full ≡ true → Does n (f (get_or list i 0)) M log s M' log' s' → Does n (through f list) M₀ log₀ s₀ M' log' s'
+  pub going-full : {M' : Mem} {log' : List ℕ} {s' : Come} → i < length list → s'.full ≡ true → Does n (f (get_or list i 0)) M log s M' log' s' → Does n (through f list) M₀ log₀ s₀ M' log' s'
   unfolding and_then outcome
   going-full {M'} {log'} {s'} h e L =
       record {

@@ -17,8 +17,8 @@ use Rattle.reduction.specs.Lists.{In, has, Distinct, distinct}
 use Rattle.reduction.specs.Demand.{NamesAll}
 use Rattle.pauli.proofs.Bools.{not_so, and_both, and_left, and_right}
 use Rattle.reduction.proofs.Lists.{has→in, in-get_or, place_of, distinct→, most-different, different-le, most-below}
-use Rattle.terms.specs.declared.Canonicalized.{Canonicalized}
-use Rattle.terms.specs.declared.Canonicalized.TheVariants.{Refused}
+use Rattle.terms.specs.Calls.{ReductionAnswer}
+use Rattle.terms.specs.Calls.{RefusedBy}
 use Rattle.reduction.specs.Log.{capacity}
 use Rattle.encoding.specs.Ranks.{TableLine, by_rank}
 use Rattle.terms.specs.Refused.{list_lines, reduce_fault}
@@ -72,7 +72,7 @@ whole-fault n M =
     ∙ ap (or_else (by_rank (set_lines n M))) (no-list-fault n (count M)) ∙ or-zero (by_rank (set_lines n M))
 
 -- So the contract of `canonicalize_all` is that of `canonicalize` at these lists.
-pub whole_is : (n : ℕ) (M : Mem) (log : List ℕ) (M' : Mem) (log' : List ℕ) (r : Canonicalized) → ReducesAll n M log M' log' r → Reduces n (up_to (n + n)) (up_to (count M)) [] M log M' log' r
+pub whole_is : (n : ℕ) (M : Mem) (log : List ℕ) (M' : Mem) (log' : List ℕ) (r : ReductionAnswer) → ReducesAll n M log M' log' r → Reduces n (up_to (n + n)) (up_to (count M)) [] M log M' log' r
 whole_is n M log M' log' r L = subst (λ f. Leaves n f (whole_outcome n M log) M log M' log' r) (sym (whole-fault n M)) L
 
 -- The order of `canonicalize_all` names every column.
@@ -88,7 +88,7 @@ other-number k (l ∷ ls) c (inl p) = false≢true (sym (ap not (eq-eqb l.number
 other-number k (l ∷ ls) c (inr p) = other-number k ls (and_right (not (eqb l.number k)) (every (λ l. not (eqb l.number k)) ls) c) p.1
 
 -- It names no column twice, so 15 is never drawn.
-pub whole-never-15 : {n : ℕ} {M : Mem} {log : List ℕ} {M' : Mem} {log' : List ℕ} {r : Canonicalized} → ReducesAll n M log M' log' r → r ≡ Refused 15 → ⊥
+pub whole-never-15 : {n : ℕ} {M : Mem} {log : List ℕ} {M' : Mem} {log' : List ℕ} {r : ReductionAnswer} → ReducesAll n M log M' log' r → r ≡ RefusedBy 15 → ⊥
 unfolding every
 whole-never-15 {n} {M} {log} L e =
     other-number 15 (set_lines n M) refl ((canonicalized-refused (capacity log) (whole_outcome n M log) (set_lines n M) 14).0 (sym L.answer ∙ e))

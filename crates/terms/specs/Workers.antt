@@ -1,10 +1,10 @@
 -- What the inner functions of this crate ask and leave: the leaves that reducer and checker share, which take any input (of a row set proofs/RowView.antt says
 -- that they are `bit_row`, `first` and `mul_at`), and the run that the reducer's workers stand for. The calls' contracts do not speak of it. Assumes nothing.
-use Rattle.std.specs.Prelude.{ℕ, ◌+◌, ◌≤◌, ◌<◌, ◌-◌, ◌*◌, ◌/◌, ◌%◌, ◌≡◌, false, Bool, cond, ◌&&◌, List, ◌++◌, length, take, drop, eqb, leb, ltb}
+use Rattle.std.specs.Prelude.{ℕ, ◌+◌, ◌≤◌, ◌<◌, ◌-◌, ◌*◌, ◌/◌, ◌%◌, ◌≡◌, false, Bool, cond, ◌&&◌, List, ◌++◌, length, take, drop, eqb, leb, ltb, Result, Ok, Err, ⊤}
 use Rattle.encoding.specs.Set.{Mem, count, Sound, row, mem_of, exponent_at, with_exponent}
 pub use Rattle.reduction.specs.Workers.{Below}
 use Rattle.late.specs.declared.Progress.{Progress}
-pub use Rattle.late.specs.Workers.{Keeps, result_of, start, Does, ListsIn, Blank}
+pub use Rattle.late.specs.Workers.{Come, come, going_on, Keeps, result_of, start, Does, ListsIn, Blank}
 unfoldable pub use Rattle.late.specs.Workers.{run_of, outcome}
 use Rattle.pauli.specs.Pauli.{has_x, has_z, mul, phases, clashes}
 use Rattle.encoding.specs.Limits.{max_qubits, max_rows, max_words, words_of}
@@ -12,6 +12,7 @@ use Rattle.encoding.specs.Words.{bit_at, unpack, pack}
 use Rattle.encoding.specs.Refusals.{out_lines}
 use Rattle.encoding.specs.Ranks.{by_rank}
 use Rattle.products.specs.Leaves.{Multiplied}
+pub use Rattle.late.specs.Workers.{place_from}
 unfoldable pub use Rattle.reduction.specs.Workers.{first_place}
 use Rattle.products.specs.declared.Factor.{Factor}
 
@@ -70,8 +71,13 @@ pub record RowsMultiplied (w a b : ℕ) (M M' : Mem) (c : ℕ) : Type 0 where
 
 -- ---- the reducer: the row set in memory, the entries in the log, the run they stand for
 
+-- where the run goes on, its pivots are among the first m listed rows
+abbrev pub Among : ℕ → Result Progress Progress → Type 0
+Among m (Ok s) = s.t ≤ m
+Among m (Err s) = ⊤
+
 -- what every worker asks: a row set, room for the entries that are there, a run that goes on
-pub record Ready (n : ℕ) (M : Mem) (log : List ℕ) (s : Progress) : Type 0 where
+pub record Ready (n : ℕ) (M : Mem) (log : List ℕ) (s : Come) : Type 0 where
   pub sound : Sound n M
   pub room : s.entries + s.entries ≤ length log
   pub going : s.full ≡ false

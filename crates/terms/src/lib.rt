@@ -2,16 +2,17 @@
 
 #![tactic(auto)]
 
-ghost use Rattle.std.specs.Prelude.{◌≡◌, ◌+◌, ◌≤◌, length};
-ghost use Rattle.encoding.specs.Set.{Sound, mem_of};
+ghost use Rattle.std.specs.Prelude.{◌≡◌, ◌+◌, ◌≤◌, length, IfOk};
+ghost use Rattle.encoding.specs.Set.{Sound, mem_of, set_of};
 ghost use Rattle.encoding.specs.Limits.{max_qubits, max_rows};
-ghost use Rattle.encoding.specs.Refusals.{rows_lines};
-ghost use Rattle.encoding.specs.Ranks.{by_rank};
+ghost use Rattle.encoding.specs.Refusals.{done_or};
 ghost use Rattle.terms.specs.Refused.{reduce_fault, Reducible};
 ghost use Rattle.terms.specs.Workers.{ListsIn};
+ghost use Rattle.terms.specs.declared.Stopped.TheVariants.{Refused};
 ghost use Rattle.terms.specs.Calls.{Multiplies, Leaves, outcome_of, Reduces, whole_outcome, ReducesAll, up_to};
 
-use encoding::MAX_ROWS;
+use encoding::{MAX_ROWS, Refusal, RowSet};
+pub use late::Lists;
 use pauli::RowNumber;
 
 mod lists;
@@ -21,22 +22,30 @@ pub mod rows;
 // The columns of the longest row: X and Z of each qubit.
 const MAX_COLUMNS: usize = 2 * encoding::MAX_QUBITS;
 
-// What a reduction answers: done, with the number of log entries and of pivots; full (refusal 8), with the log's capacity; refused, with its number.
-#[derive(Drop)]
-pub enum Canonicalized {
-    Done { entries: usize, t: usize },
-    Full(usize),
-    Refused(u8),
+// What a reduction comes to that is done: the number of log entries, and of pivots.
+#[derive(Clone, Copy, Debug, PartialEq, Eq)]
+pub struct Canonicalized {
+    pub entries: usize,
+    pub t: usize,
 }
 
-// What the product in place answers: the number of qubits at which the two rows held differing Paulis other than I.
-#[derive(Drop)]
-pub enum Clashes {
-    Number(u16),
-    Refused(u8),
+// Why a reduction is not done: its log is full (refusal 8), with the log's capacity, or it is refused.
+#[derive(Clone, Copy, Debug, PartialEq, Eq)]
+pub enum Stopped {
+    Full(usize),
+    Refused(Refusal),
+}
+
+impl From<Refusal> for Stopped {
+    ghost from_gives = { λ r e. e ≡ Refused r };
+
+    fn from(r: Refusal) -> Stopped {
+        Stopped::Refused(r)
+    }
 }
 
 // Row a of the set is multiplied by row b, in place; the number of clashes is returned.
+#[tactic(auto, using(encoding::proofs::Faults::refusing, encoding::proofs::Faults::kept))]
 pub fn imul(
     n: usize,
     m: usize,
@@ -45,37 +54,21 @@ pub fn imul(
     phases: &mut [u64],
     a: RowNumber,
     b: RowNumber,
-) -> Clashes
+) -> Result<u16, Refusal>
     ensures { Multiplies n a.0 b.0 (mem_of m x.old z.old phases.old) (mem_of m x.new z.new phases.new) result }
 {
     let large = (m <= a.0) | (m <= b.0);
-    let f = encoding::row_fault(n, m, x, z, phases, large);
-    if f != 0 {
-        return Clashes::Refused(f);
-    }
-    Clashes::Number(rows::imul_unchecked(n, m, x, z, phases, a, b))
+    encoding::row_fault(&RowSet { n, m, x, z, phases }, large)?;
+    Ok(rows::imul_unchecked(n, m, x, z, phases, a, b))
 }
 
-// The first line of the table, by rank, that fits a set, an order and two lists, or 0. The set's lines come first, so the lists are looked at within
-// the limits only.
-pub fn reduce_fault(
-    n: usize,
-    m: usize,
-    x: &[u64],
-    z: &[u64],
-    phases: &[u64],
-    order: &[u16],
-    listed: &[u16],
-    extra: &[u16],
-) -> u8
-    ensures value { result ≡ reduce_fault n (mem_of m x.now z.now phases.now) order.now listed.now extra.now }
-    ensures passed { result ≡ 0 → Reducible n order.now listed.now extra.now (mem_of m x.now z.now phases.now) }
+// Whether a set, an order and two lists are refused. The set's lines come first, so the lists are looked at within the limits only.
+pub fn reduce_fault(set: &RowSet<'_>, lists: &Lists<'_>) -> Result<(), Refusal>
+    ensures value { result ≡ done_or (reduce_fault set.now.n (set_of set.now) lists.now.order.now lists.now.listed.now lists.now.extra.now) }
+    ensures passed { IfOk result (λ _. Reducible set.now.n lists.now.order.now lists.now.listed.now lists.now.extra.now (set_of set.now)) }
 {
-    let f = encoding::set_fault(n, m, x, z, phases);
-    if f != 0 {
-        return f;
-    }
-    lists::lists_fault(n, m, order, listed, extra)
+    encoding::set_fault(set)?;
+    lists::lists_fault(set.n, set.m, lists)
 }
 
 // The reduction of a set that the refusals passed.
@@ -85,23 +78,22 @@ fn reduced(
     x: &mut [u64],
     z: &mut [u64],
     phases: &mut [u64],
-    order: &[u16],
-    listed: &[u16],
-    extra: &[u16],
+    lists: &Lists<'_>,
     log: &mut [u16],
-) -> Canonicalized
-    requires { ListsIn n order.now listed.now extra.now (mem_of m x.old z.old phases.old) }
+) -> Result<Canonicalized, Stopped>
+    requires { ListsIn n lists.now.order.now lists.now.listed.now lists.now.extra.now (mem_of m x.old z.old phases.old) }
     ensures { Leaves n 0
-        (outcome_of n order.now listed.now extra.now (mem_of m x.old z.old phases.old) log.old)
+        (outcome_of n lists.now.order.now lists.now.listed.now lists.now.extra.now (mem_of m x.old z.old phases.old) log.old)
         (mem_of m x.old z.old phases.old) log.old (mem_of m x.new z.new phases.new) log.new result }
 {
-    let s = reduce::columns(n, m, x, z, phases, log, order, listed, extra);
-    if s.full {
-        return Canonicalized::Full(log.len() / 2);
+    match reduce::columns(n, m, x, z, phases, log, lists) {
+        Ok(s) => {
+            let entries = s.entries;
+            let t = s.t;
+            Ok(Canonicalized { entries, t })
+        }
+        Err(_) => Err(Stopped::Full(log.len() / 2)),
     }
-    let entries = s.entries;
-    let t = s.t;
-    Canonicalized::Done { entries, t }
 }
 
 // The set is reduced by the order of columns: pivots are found among the listed rows, and these and the extra rows are cleared. Products are logged.
@@ -111,19 +103,14 @@ pub fn canonicalize(
     x: &mut [u64],
     z: &mut [u64],
     phases: &mut [u64],
-    order: &[u16],
-    listed: &[u16],
-    extra: &[u16],
+    lists: &Lists<'_>,
     log: &mut [u16],
-) -> Canonicalized
-    ensures { Reduces n order.now listed.now extra.now (mem_of m x.old z.old phases.old) log.old
+) -> Result<Canonicalized, Stopped>
+    ensures { Reduces n lists.now.order.now lists.now.listed.now lists.now.extra.now (mem_of m x.old z.old phases.old) log.old
         (mem_of m x.new z.new phases.new) log.new result }
 {
-    let f = reduce_fault(n, m, x, z, phases, order, listed, extra);
-    if f != 0 {
-        return Canonicalized::Refused(f);
-    }
-    reduced(n, m, x, z, phases, order, listed, extra, log)
+    reduce_fault(&RowSet { n, m, x, z, phases }, lists)?;
+    reduced(n, m, x, z, phases, lists, log)
 }
 
 // The numbers from 0 on.
@@ -132,10 +119,8 @@ fn count_up(list: &mut [u16])
     ensures { list.new ≡ up_to (length list.old) }
 {
     let m = list.len();
-    let mut i = 0;
-    while i < m {
+    for i in 0..m {
         list[i] = i as u16;
-        i += 1;
     }
 }
 
@@ -149,24 +134,19 @@ fn reduced_by(
     columns: &[u16],
     rows: &[u16],
     log: &mut [u16],
-) -> Canonicalized
+) -> Result<Canonicalized, Stopped>
     requires sound { Sound n (mem_of m x.old z.old phases.old) }
     requires columns_value { (columns.now ≡ up_to (max_qubits + max_qubits)) × (rows.now ≡ up_to max_rows) }
     ensures { Leaves n 0 (whole_outcome n (mem_of m x.old z.old phases.old) log.old)
         (mem_of m x.old z.old phases.old) log.old (mem_of m x.new z.new phases.new) log.new result }
 {
     let k = n + n;
-    reduced(
-        n,
-        m,
-        x,
-        z,
-        phases,
-        &columns[0..k],
-        &rows[0..m],
-        &rows[0..0],
-        log,
-    )
+    let lists = Lists {
+        order: &columns[0..k],
+        listed: &rows[0..m],
+        extra: &rows[0..0],
+    };
+    reduced(n, m, x, z, phases, &lists, log)
 }
 
 // All columns, all rows listed, no extra rows.
@@ -177,7 +157,7 @@ fn reduced_all(
     z: &mut [u64],
     phases: &mut [u64],
     log: &mut [u16],
-) -> Canonicalized
+) -> Result<Canonicalized, Stopped>
     requires { Sound n (mem_of m x.old z.old phases.old) }
     ensures { Leaves n 0 (whole_outcome n (mem_of m x.old z.old phases.old) log.old)
         (mem_of m x.old z.old phases.old) log.old (mem_of m x.new z.new phases.new) log.new result }
@@ -197,12 +177,9 @@ pub fn canonicalize_all(
     z: &mut [u64],
     phases: &mut [u64],
     log: &mut [u16],
-) -> Canonicalized
+) -> Result<Canonicalized, Stopped>
     ensures { ReducesAll n (mem_of m x.old z.old phases.old) log.old (mem_of m x.new z.new phases.new) log.new result }
 {
-    let f = encoding::set_fault(n, m, x, z, phases);
-    if f != 0 {
-        return Canonicalized::Refused(f);
-    }
+    encoding::set_fault(&RowSet { n, m, x, z, phases })?;
     reduced_all(n, m, x, z, phases, log)
 }

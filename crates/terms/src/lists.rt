@@ -1,13 +1,13 @@
 // Refusals 6, 7 and 15 of an order and two lists.
 ghost use Rattle.std.specs.Prelude.{◌≡◌, false, ◌+◌, ◌≤◌, length};
 ghost use Rattle.encoding.specs.Limits.{max_qubits, max_rows};
-ghost use Rattle.encoding.specs.Refusals.{some, too_large};
+ghost use Rattle.encoding.specs.Refusals.{done_or, some, too_large};
 ghost use Rattle.encoding.specs.Ranks.{by_rank};
 ghost use Rattle.terms.specs.Refused.{repeated as hasRepeat, list_lines};
 ghost use Rattle.terms.specs.Workers.{Blank};
 
-use crate::MAX_COLUMNS;
-use encoding::MAX_ROWS;
+use crate::{Lists, MAX_COLUMNS};
+use encoding::{MAX_ROWS, Refusal};
 
 // Whether k is a + b or above; the sum itself need not fit.
 fn reaches(k: usize, a: usize, b: usize) -> bool
@@ -23,14 +23,7 @@ fn reaches(k: usize, a: usize, b: usize) -> bool
 fn too_large(list: &[u16], a: usize, b: usize) -> bool
     ensures { result ≡ some (too_large (a + b)) list.now }
 {
-    let mut i = 0;
-    while i < list.len() {
-        if reaches(list[i] as usize, a, b) {
-            return true;
-        }
-        i += 1;
-    }
-    false
+    list.iter().any(|&k| reaches(k as usize, a, b))
 }
 
 // The marks of a number: not seen yet, seen.
@@ -44,15 +37,12 @@ fn repeated(list: &[u16], marks: &mut [u8]) -> bool
     requires blank { Blank marks.old }
     ensures { result ≡ hasRepeat list.now }
 {
-    let end = list.len();
-    let mut i = 0;
-    while i < end {
-        let k = list[i] as usize;
+    for &number in list {
+        let k = number as usize;
         if marks[k] != NONE {
             return true;
         }
         marks[k] = SEEN;
-        i += 1;
     }
     false
 }
@@ -75,22 +65,22 @@ fn column_repeated(order: &[u16]) -> bool
     repeated(order, &mut marks)
 }
 
-// The first line of the table, by rank, that fits an order and two lists of m rows of n qubits, or 0.
-pub(crate) fn lists_fault(n: usize, m: usize, order: &[u16], listed: &[u16], extra: &[u16]) -> u8
+// Whether an order and two lists of m rows of n qubits are refused.
+pub(crate) fn lists_fault(n: usize, m: usize, lists: &Lists<'_>) -> Result<(), Refusal>
     requires { (n ≤ max_qubits) × (m ≤ max_rows) }
-    ensures { result ≡ by_rank (list_lines n m order.now listed.now extra.now) }
+    ensures { result ≡ done_or (by_rank (list_lines n m lists.now.order.now lists.now.listed.now lists.now.extra.now)) }
 {
-    let a = too_large(order, n, n);
-    let b = too_large(listed, m, 0);
-    let c = too_large(extra, m, 0);
+    let a = too_large(lists.order, n, n);
+    let b = too_large(lists.listed, m, 0);
+    let c = too_large(lists.extra, m, 0);
     if a | (b | c) {
-        return 6;
+        return Err(Refusal::LARGE_NUMBER);
     }
-    if row_repeated(listed) {
-        return 7;
+    if row_repeated(lists.listed) {
+        return Err(Refusal::REPEATED_ROW);
     }
-    if column_repeated(order) {
-        return 15;
+    if column_repeated(lists.order) {
+        return Err(Refusal::REPEATED_COLUMN);
     }
-    0
+    Ok(())
 }

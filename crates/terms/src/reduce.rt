@@ -4,10 +4,10 @@ ghost use Rattle.pauli.specs.Row.{mul_row, bit_row};
 ghost use Rattle.encoding.specs.Set.{Sound, mem_of};
 ghost use Rattle.reduction.specs.Log.{capacity};
 ghost use Rattle.reduction.specs.Workers.{through, multiply_c, turn_c, lead_c, pivot_c, column_c};
-ghost use Rattle.terms.specs.Workers.{Below, Ready, start, Does};
+ghost use Rattle.terms.specs.Workers.{Below, Ready, come, going_on, Among, start, Does};
 
 use crate::rows::{find, get_bit, imul_unchecked};
-use late::Progress;
+use late::{Lists, Progress};
 use pauli::RowNumber;
 
 // Row a is multiplied by row b, and (a, b) is logged, if the entry fits.
@@ -21,30 +21,22 @@ fn put(
     s: Progress,
     a: u16,
     b: u16,
-) -> Progress
-    requires ready { Ready n (mem_of m x.old z.old p.old) log.old s }
+) -> Result<Progress, Progress>
+    requires ready { Ready n (mem_of m x.old z.old p.old) log.old (going_on s) }
     requires a_lt_m { (a < m) × (b < m) }
-    ensures { Does n (multiply_c (mul_row n) (capacity log.old) a b) (mem_of m x.old z.old p.old) log.old s (mem_of m x.new z.new p.new)
-        log.new result }
+    ensures { Does n (multiply_c (mul_row n) (capacity log.old) a b) (mem_of m x.old z.old p.old) log.old (going_on s) (mem_of m x.new z.new p.new)
+        log.new (come result) }
 {
     let k = s.entries;
     let t = s.t;
     if log.len() / 2 <= k {
-        return Progress {
-            full: true,
-            entries: k,
-            t,
-        };
+        return Err(s);
     }
     imul_unchecked(n, m, x, z, p, RowNumber(a as usize), RowNumber(b as usize));
     let h = k + k;
     log[h] = a;
     log[h + 1] = b;
-    Progress {
-        full: false,
-        entries: k + 1,
-        t,
-    }
+    Ok(Progress { entries: k + 1, t })
 }
 
 // Row k, if it is another than the pivot and has column c set, is multiplied by the pivot.
@@ -59,19 +51,19 @@ fn turn(
     c: usize,
     pivot: u16,
     k: u16,
-) -> Progress
-    requires ready { Ready n (mem_of m x.old z.old p.old) log.old s }
+) -> Result<Progress, Progress>
+    requires ready { Ready n (mem_of m x.old z.old p.old) log.old (going_on s) }
     requires c_bound { (c < n + n) × (pivot < m) × (k < m) }
-    ensures { Does n (turn_c (bit_row n) (mul_row n) (capacity log.old) c pivot k) (mem_of m x.old z.old p.old) log.old s
-        (mem_of m x.new z.new p.new) log.new result }
+    ensures { Does n (turn_c (bit_row n) (mul_row n) (capacity log.old) c pivot k) (mem_of m x.old z.old p.old) log.old (going_on s)
+        (mem_of m x.new z.new p.new) log.new (come result) }
 {
     if k == pivot {
-        return s;
+        return Ok(s);
     }
     if get_bit(n, x, z, RowNumber(k as usize), c) {
         return put(n, m, x, z, p, log, s, k, pivot);
     }
-    s
+    Ok(s)
 }
 
 // Each row of the list other than the pivot with column c set is multiplied by the pivot, as long as entries fit.
@@ -86,22 +78,17 @@ fn clear(
     s: Progress,
     c: usize,
     pivot: u16,
-) -> Progress
-    requires ready { Ready n (mem_of m x.old z.old p.old) log.old s }
+) -> Result<Progress, Progress>
+    requires ready { Ready n (mem_of m x.old z.old p.old) log.old (going_on s) }
     requires c_bound { (c < n + n) × (pivot < m) × Below m list.now }
     ensures { Does n (through (turn_c (bit_row n) (mul_row n) (capacity log.old) c pivot) list.now) (mem_of m x.old z.old p.old)
-        log.old s (mem_of m x.new z.new p.new) log.new result }
+        log.old (going_on s) (mem_of m x.new z.new p.new) log.new (come result) }
 {
     let mut r = s;
-    let mut i = 0;
-    while i < list.len() {
-        r = turn(n, m, x, z, p, log, r, c, pivot, list[i]);
-        if r.full {
-            return r;
-        }
-        i += 1;
+    for &k in list {
+        r = turn(n, m, x, z, p, log, r, c, pivot, k)?;
     }
-    r
+    Ok(r)
 }
 
 // The pivot is multiplied by the row found, if that is another.
@@ -115,14 +102,14 @@ fn lead(
     s: Progress,
     pivot: u16,
     found: u16,
-) -> Progress
-    requires ready { Ready n (mem_of m x.old z.old p.old) log.old s }
+) -> Result<Progress, Progress>
+    requires ready { Ready n (mem_of m x.old z.old p.old) log.old (going_on s) }
     requires pivot_lt_m { (pivot < m) × (found < m) }
-    ensures { Does n (lead_c (bit_row n) (mul_row n) (capacity log.old) pivot found) (mem_of m x.old z.old p.old) log.old s
-        (mem_of m x.new z.new p.new) log.new result }
+    ensures { Does n (lead_c (bit_row n) (mul_row n) (capacity log.old) pivot found) (mem_of m x.old z.old p.old) log.old (going_on s)
+        (mem_of m x.new z.new p.new) log.new (come result) }
 {
     if found == pivot {
-        return s;
+        return Ok(s);
     }
     put(n, m, x, z, p, log, s, pivot, found)
 }
@@ -135,22 +122,19 @@ fn clear_both(
     z: &mut [u64],
     p: &mut [u64],
     log: &mut [u16],
-    listed: &[u16],
-    extra: &[u16],
+    lists: &Lists<'_>,
     s: Progress,
     c: usize,
     pivot: u16,
-) -> Progress
-    requires ready { Ready n (mem_of m x.old z.old p.old) log.old s }
-    requires c_bound { (c < n + n) × (pivot < m) × Below m listed.now × Below m extra.now }
+) -> Result<Progress, Progress>
+    requires ready { Ready n (mem_of m x.old z.old p.old) log.old (going_on s) }
+    requires c_bound { (c < n + n) × (pivot < m) × Below m lists.now.listed.now × Below m lists.now.extra.now }
     ensures { Does n (through (turn_c (bit_row n) (mul_row n) (capacity log.old) c pivot)
-        (listed.now ++ extra.now)) (mem_of m x.old z.old p.old) log.old s (mem_of m x.new z.new p.new) log.new result }
+        (lists.now.listed.now ++ lists.now.extra.now)) (mem_of m x.old z.old p.old) log.old (going_on s) (mem_of m x.new z.new p.new) log.new
+        (come result) }
 {
-    let r = clear(n, m, x, z, p, log, listed, s, c, pivot);
-    if r.full {
-        return r;
-    }
-    clear(n, m, x, z, p, log, extra, r, c, pivot)
+    let r = clear(n, m, x, z, p, log, lists.listed, s, c, pivot)?;
+    clear(n, m, x, z, p, log, lists.extra, r, c, pivot)
 }
 
 // A pivot and the row found: the pivot is multiplied by it, if it is another, and the other rows are cleared.
@@ -161,24 +145,21 @@ fn pivot_by(
     z: &mut [u64],
     p: &mut [u64],
     log: &mut [u16],
-    listed: &[u16],
-    extra: &[u16],
+    lists: &Lists<'_>,
     s: Progress,
     c: usize,
     pivot: u16,
     found: u16,
-) -> Progress
-    requires ready { Ready n (mem_of m x.old z.old p.old) log.old s }
-    requires c_bound { (c < n + n) × (pivot < m) × (found < m) × Below m listed.now
-        × Below m extra.now }
+) -> Result<Progress, Progress>
+    requires ready { Ready n (mem_of m x.old z.old p.old) log.old (going_on s) }
+    requires c_bound { (c < n + n) × (pivot < m) × (found < m) × Below m lists.now.listed.now
+        × Below m lists.now.extra.now }
     ensures { Does n (pivot_c (bit_row n) (mul_row n) (capacity log.old)
-        (listed.now ++ extra.now) c pivot found) (mem_of m x.old z.old p.old) log.old s (mem_of m x.new z.new p.new) log.new result }
+        (lists.now.listed.now ++ lists.now.extra.now) c pivot found)
+        (mem_of m x.old z.old p.old) log.old (going_on s) (mem_of m x.new z.new p.new) log.new (come result) }
 {
-    let r = lead(n, m, x, z, p, log, s, pivot, found);
-    if r.full {
-        return r;
-    }
-    clear_both(n, m, x, z, p, log, listed, extra, r, c, pivot)
+    let r = lead(n, m, x, z, p, log, s, pivot, found)?;
+    clear_both(n, m, x, z, p, log, lists, r, c, pivot)
 }
 
 // One column of the order.
@@ -189,38 +170,35 @@ fn column(
     z: &mut [u64],
     p: &mut [u64],
     log: &mut [u16],
-    listed: &[u16],
-    extra: &[u16],
+    lists: &Lists<'_>,
     s: Progress,
     c: usize,
-) -> Progress
-    requires ready { Ready n (mem_of m x.old z.old p.old) log.old s }
-    requires c_bound { (c < n + n) × (s.t ≤ length listed.now) × Below m listed.now × Below m extra.now }
-    ensures t_in_bounds { result.t ≤ length listed.now }
-    ensures does { Does n (column_c (bit_row n) (mul_row n) (capacity log.old) listed.now extra.now c)
-        (mem_of m x.old z.old p.old) log.old s (mem_of m x.new z.new p.new) log.new result }
+) -> Result<Progress, Progress>
+    requires ready { Ready n (mem_of m x.old z.old p.old) log.old (going_on s) }
+    requires c_bound { (c < n + n) × (s.t ≤ length lists.now.listed.now) × Below m lists.now.listed.now × Below m lists.now.extra.now }
+    ensures t_in_bounds { Among (length lists.now.listed.now) result }
+    ensures does { Does n (column_c (bit_row n) (mul_row n) (capacity log.old) lists.now.listed.now lists.now.extra.now c)
+        (mem_of m x.old z.old p.old) log.old (going_on s) (mem_of m x.new z.new p.new) log.new (come result) }
 {
     let t = s.t;
-    let f = find(n, x, z, listed, t, c);
-    if listed.len() <= f {
-        return s;
-    }
+    let Some(f) = find(n, x, z, lists.listed, t, c) else {
+        return Ok(s);
+    };
     let r = pivot_by(
-        n, m, x, z, p, log, listed, extra, s, c, listed[t], listed[f],
-    );
-    let k = r.entries;
-    if r.full {
-        return Progress {
-            full: true,
-            entries: k,
-            t,
-        };
-    }
-    Progress {
-        full: false,
-        entries: k,
-        t: t + 1,
-    }
+        n,
+        m,
+        x,
+        z,
+        p,
+        log,
+        lists,
+        s,
+        c,
+        lists.listed[t],
+        lists.listed[f],
+    )?;
+    let entries = r.entries;
+    Ok(Progress { entries, t: t + 1 })
 }
 
 // The columns of the order, one after another, from an empty log on.
@@ -231,30 +209,18 @@ fn by_loops(
     z: &mut [u64],
     p: &mut [u64],
     log: &mut [u16],
-    order: &[u16],
-    listed: &[u16],
-    extra: &[u16],
-) -> Progress
+    lists: &Lists<'_>,
+) -> Result<Progress, Progress>
     requires sound { Sound n (mem_of m x.old z.old p.old) }
-    requires below { Below (n + n) order.now × Below m listed.now × Below m extra.now }
-    ensures { Does n (through (column_c (bit_row n) (mul_row n) (capacity log.old) listed.now extra.now)
-        order.now) (mem_of m x.old z.old p.old) log.old start (mem_of m x.new z.new p.new) log.new result }
+    requires below { Below (n + n) lists.now.order.now × Below m lists.now.listed.now × Below m lists.now.extra.now }
+    ensures { Does n (through (column_c (bit_row n) (mul_row n) (capacity log.old) lists.now.listed.now lists.now.extra.now)
+        lists.now.order.now) (mem_of m x.old z.old p.old) log.old start (mem_of m x.new z.new p.new) log.new (come result) }
 {
-    let mut r = Progress {
-        full: false,
-        entries: 0,
-        t: 0,
-    };
-    let mut i = 0;
-    while i < order.len() {
-        let c = order[i] as usize;
-        r = column(n, m, x, z, p, log, listed, extra, r, c);
-        if r.full {
-            return r;
-        }
-        i += 1;
+    let mut r = Progress { entries: 0, t: 0 };
+    for &c in lists.order {
+        r = column(n, m, x, z, p, log, lists, r, c as usize)?;
     }
-    r
+    Ok(r)
 }
 
 // The rows, and the columns of the order, from which on the table of products of pivots pays.
@@ -270,16 +236,14 @@ fn by_table(
     z: &mut [u64],
     p: &mut [u64],
     log: &mut [u16],
-    order: &[u16],
-    listed: &[u16],
-    extra: &[u16],
-) -> Progress
+    lists: &Lists<'_>,
+) -> Result<Progress, Progress>
     requires sound { Sound n (mem_of m x.old z.old p.old) }
-    requires below { Below (n + n) order.now × Below m listed.now × Below m extra.now }
-    ensures { Does n (through (column_c (bit_row n) (mul_row n) (capacity log.old) listed.now extra.now)
-        order.now) (mem_of m x.old z.old p.old) log.old start (mem_of m x.new z.new p.new) log.new result }
+    requires below { Below (n + n) lists.now.order.now × Below m lists.now.listed.now × Below m lists.now.extra.now }
+    ensures { Does n (through (column_c (bit_row n) (mul_row n) (capacity log.old) lists.now.listed.now lists.now.extra.now)
+        lists.now.order.now) (mem_of m x.old z.old p.old) log.old start (mem_of m x.new z.new p.new) log.new (come result) }
 {
-    late::columns(n, m, x, z, p, log, order, listed, extra)
+    late::columns(n, m, x, z, p, log, lists)
 }
 
 // The same, whichever is faster.
@@ -290,18 +254,16 @@ pub(crate) fn columns(
     z: &mut [u64],
     p: &mut [u64],
     log: &mut [u16],
-    order: &[u16],
-    listed: &[u16],
-    extra: &[u16],
-) -> Progress
+    lists: &Lists<'_>,
+) -> Result<Progress, Progress>
     requires sound { Sound n (mem_of m x.old z.old p.old) }
-    requires below { Below (n + n) order.now × Below m listed.now × Below m extra.now }
-    ensures { Does n (through (column_c (bit_row n) (mul_row n) (capacity log.old) listed.now extra.now)
-        order.now) (mem_of m x.old z.old p.old) log.old start (mem_of m x.new z.new p.new) log.new result }
+    requires below { Below (n + n) lists.now.order.now × Below m lists.now.listed.now × Below m lists.now.extra.now }
+    ensures { Does n (through (column_c (bit_row n) (mul_row n) (capacity log.old) lists.now.listed.now lists.now.extra.now)
+        lists.now.order.now) (mem_of m x.old z.old p.old) log.old start (mem_of m x.new z.new p.new) log.new (come result) }
 {
-    let few = (m < LATE_ROWS) | (order.len() < LATE_COLUMNS);
+    let few = (m < LATE_ROWS) | (lists.order.len() < LATE_COLUMNS);
     if few {
-        return by_loops(n, m, x, z, p, log, order, listed, extra);
+        return by_loops(n, m, x, z, p, log, lists);
     }
-    by_table(n, m, x, z, p, log, order, listed, extra)
+    by_table(n, m, x, z, p, log, lists)
 }

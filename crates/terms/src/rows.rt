@@ -1,12 +1,13 @@
 // The leaves that the reducer and the checker share: a column of a row, the first listed row with it set, a row multiplied by another.
-ghost use Rattle.std.specs.Prelude.{◌≡◌, ◌+◌, ◌/◌, ◌%◌, ◌<◌, ◌≤◌, drop};
+ghost use Rattle.std.specs.Prelude.{◌≡◌, ◌/◌, ◌%◌, ◌<◌, ◌≤◌};
 ghost use Rattle.encoding.specs.Limits.{max_rows, max_words};
 ghost use Rattle.encoding.specs.Words.{bit_at};
-ghost use Rattle.encoding.specs.Set.{row, exponent_at, with_exponent, mem_of};
-ghost use Rattle.terms.specs.Workers.{bit_in, first_place, mul_in, clashes_in, InRows, RowsMultiplied};
+ghost use Rattle.encoding.specs.Set.{row, mem_of};
+ghost use Rattle.terms.specs.Workers.{bit_in, place_from, mul_in, clashes_in, InRows, RowsMultiplied};
 
-use encoding::{MAX_QUBITS, MAX_ROWS};
-use pauli::{ComplexSign, QubitNumber, RowNumber};
+use encoding::{MAX_QUBITS, MAX_ROWS, RowSet};
+use late::add_exponent_of;
+use pauli::{QubitNumber, RowNumber};
 
 // Bit q of row k of words that lie w to a row.
 fn row_bit(x: &[u64], w: usize, k: RowNumber, q: QubitNumber) -> bool
@@ -36,32 +37,21 @@ pub fn get_bit(n: usize, x: &[u64], z: &[u64], k: RowNumber, c: usize) -> bool
     row_bit(z, w, k, QubitNumber(c - n))
 }
 
-// The first place of the list, from t on, of a row with column c set; the end of the list if there is none.
-pub fn find(n: usize, x: &[u64], z: &[u64], listed: &[u16], t: usize, c: usize) -> usize
-    ensures { result ≡ t + first_place (λ k. bit_in n x.now z.now k c) (drop t listed.now) }
+// The first place of the list, from t on, of a row with column c set.
+pub fn find(n: usize, x: &[u64], z: &[u64], listed: &[u16], t: usize, c: usize) -> Option<usize>
+    ensures { result ≡ place_from (λ k. bit_in n x.now z.now k c) t listed.now }
 {
-    let mut i = t;
-    while i < listed.len() {
+    for i in t..listed.len() {
         let k = listed[i] as usize;
         if get_bit(n, x, z, RowNumber(k), c) {
-            return i;
+            return Some(i);
         }
-        i += 1;
     }
-    i
-}
-
-// The exponents of row b and of the product are added to that of row a.
-fn add_exponent(p: &mut [u64], a: RowNumber, b: RowNumber, e: ComplexSign)
-    ensures { p.new ≡ with_exponent p.old a.0
-        ((exponent_at p.old a.0 + exponent_at p.old b.0 + e.0) % 4) }
-{
-    let l = encoding::get_exponent(p, a);
-    let r = encoding::get_exponent(p, b);
-    encoding::set_exponent(p, a, products::add_signs(l, r, e));
+    None
 }
 
 // Row a is multiplied by row b; a and b may be the same. The number of clashes is returned.
+// `late` has the same for its own run; one for both would be public, and would have to test again what both have tested.
 fn mul_rows(
     w: usize,
     m: usize,
@@ -75,7 +65,7 @@ fn mul_rows(
     ensures { RowsMultiplied w a.0 b.0 (mem_of m x.old z.old p.old) (mem_of m x.new z.new p.new) result }
 {
     let f = products::imul_op_op(x, z, a.0 * w, b.0 * w, w);
-    add_exponent(p, a, b, f.phase);
+    add_exponent_of(p, a, b, f.phase);
     f.clashes
 }
 
@@ -93,9 +83,15 @@ pub fn imul_unchecked(
     ensures p_value { mem_of m x.new z.new p.new ≡ mul_in n a.0 b.0 (mem_of m x.old z.old p.old) }
     ensures number { result ≡ clashes_in n a.0 b.0 (mem_of m x.old z.old p.old) }
 {
-    if encoding::out_fault(n, m, x, z, p) != 0 {
+    let Ok(()) = encoding::out_fault(&RowSet {
+        n,
+        m,
+        x,
+        z,
+        phases: p,
+    }) else {
         return 0;
-    }
+    };
     if m <= a.0 {
         return 0;
     }

@@ -1,6 +1,7 @@
 -- The standard names, from one place.
 pub use mathlib.Core.Path.{◌≡◌, refl, sym, ap, ◌∙◌, subst}
 pub use mathlib.Core.Bool.{Bool, true, false, cond, not, ◌&&◌, false≢true}
+pub use Rattle.std.specs.Prelude.{Option, None, Some}
 pub use mathlib.Core.List.{List, [], ◌∷◌, ◌++◌, append_assoc, append-nil}
 pub use Prim.Native.Nat.{ℕ, zero, suc, ◌+◌, ◌*◌, ◌-◌, ◌/◌, ◌%◌, ◌^◌, ◌<◌, ◌≤◌}
 pub use native.Mathlib.Omega.{arith}

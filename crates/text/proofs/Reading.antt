@@ -1,60 +1,66 @@
 -- The reader's loop: what is left, read on behind the digits passed, is the whole, read from the start. Each lemma is one way on from there.
 -- Assumes nothing.
-use Rattle.text.proofs.Kit.{◌≡◌, refl, sym, ◌∙◌, Bool, true, false, cond, not, false≢true, List, ◌∷◌, ℕ, ◌+◌, ◌*◌, ◌-◌, ◌<◌, ◌≤◌, arith, add-one, ltb, leb, eqb, eq-eqb, ne_eqb, eqb-false, ltb-true, leb-true, lt-ltb, le-ltb, length, get_or, drop, drop_of_length-le, drop-cons, and_left, and_right}
-use Rattle.text.specs.Readers.{Reads}
+use Rattle.text.proofs.Kit.{◌≡◌, refl, sym, ◌∙◌, true, false, cond, None, Some, List, ◌∷◌, ℕ, ◌+◌, ◌*◌, ◌-◌, ◌<◌, ◌≤◌, arith, add-one, ltb, leb, eqb, eq-eqb, ne_eqb, leb-true, lt-ltb, le-ltb, length, get_or, drop, drop_of_length-le, drop-cons, and_right}
+use native.Mathlib.Decide.{dec_lt}
+use Rattle.text.specs.Readers.{none, Reads}
 use Rattle.text.specs.Numbers.{digit_of, places, takes, ended, further, number}
 
 module _ (b top : ℕ) (s : List ℕ) (at : ℕ) where
-  -- the digits passed make v, the place is i, and so many digits may follow
-  pub record Reading (v i left : ℕ) : Type 0 where
-    pub rest : further b top (eqb i at) left v (drop i s) ≡ number b top (drop at s)
+  -- the digits passed make v, and the place is i
+  pub record Reading (v i : ℕ) : Type 0 where
+    pub rest : further b top (eqb i at) (places b - (i - at)) v (drop i s) ≡ number b top (drop at s)
     pub small : v ≤ top
-    pub place : (i ≡ at → ⊥) → i ≤ length s
-    pub past : at ≤ i
 
-  pub begun : {left : ℕ} → left ≡ places b → Reading 0 at left
-  begun e = record { rest = rw (eq-eqb at at refl, e); small = omega arith; place = λ h. absurd (h refl); past = omega arith }
+  pub begun : Reading 0 at
+  begun =
+      let e : places b - (at - at) ≡ places b = omega arith in
+      record { rest = rw (eq-eqb at at refl, e); small = omega arith }
 
-  -- the answer where the digits end at i, and the first would stand there or not
-  abbrev pub Ends : Bool → ℕ → ℕ → Bool → ℕ → ℕ → Type 0
-  Ends first v i ok value next = (ok ≡ not first) × (value ≡ cond first 0 v) × (next ≡ cond first 0 i)
+  -- the digits end at i
+  finish : (v : ℕ) {i : ℕ} → i ≤ length s → at ≤ i → number b top (drop at s) ≡ ended (eqb i at) v (drop i s) → Reads (number b top) s at (cond (ltb at i) (Some (v, i)) None)
+  finish v {i} k l e = go (dec_lt at i)
+    where
+      go : Dec (at < i) → Reads (number b top) s at (cond (ltb at i) (Some (v, i)) None)
+      go (yes f) = rw (lt-ltb at i f) (record { is = e ∙ rw (ne_eqb i at (λ z. omega arith)); within = k })
+      go (no f) = rw (le-ltb at i (omega arith)) (e ∙ rw (eq-eqb i at (omega arith)))
 
-  finish : (first : Bool) (v i : ℕ) {ok : Bool} {value next : ℕ} → Ends first v i ok value next → number b top (drop at s) ≡ ended first v (drop i s) → v ≤ top → (first ≡ false → i ≤ length s) → Reads (number b top) s at ok value next × (value ≤ top)
-  finish true v i e k h l = rw (e.0, e.1, e.2) (record { is = k; within = omega arith }, omega arith)
-  finish false v i e k h l = rw (e.0, e.1, e.2) (record { is = k; within = l refl }, h)
-
-  module _ {v i left : ℕ} (r : Reading v i left) where
-    sound : eqb i at ≡ false → i ≤ length s
-    sound e = r.place (eqb-false i at e)
-
-    -- the bytes end
-    pub at-end : {ok : Bool} {value next : ℕ} → length s ≤ i → Ends (eqb i at) v i ok value next → Reads (number b top) s at ok value next × (value ≤ top)
+  module _ {v i : ℕ} (r : Reading v i) (l : at ≤ i) where
+    -- the bytes end; where the place was past their end, none was passed
+    pub at-end : length s ≤ i → (at ≤ length s → i ≤ length s) → Reads (number b top) s at (cond (ltb at (length s)) (Some (v, length s)) None)
     unfolding further
-    at-end h e = finish (eqb i at) v i e (sym r.rest ∙ rw (drop_of_length-le s h)) r.small sound
+    at-end h k = go (dec_lt at (length s))
+      where
+        go : Dec (at < length s) → Reads (number b top) s at (cond (ltb at (length s)) (Some (v, length s)) None)
+        go (yes f) =
+            let m : i ≤ length s = k (omega arith) in
+            let e : i ≡ length s = omega arith in
+            rw (← e) (finish _ m l (sym r.rest ∙ rw (drop_of_length-le s h)))
+        go (no f) =
+            let m : length s ≤ at = omega arith in
+            rw (le-ltb at (length s) m, drop_of_length-le s m)
 
-    module _ (h : i < length s) (d : ℕ) (k : d ≡ digit_of (get_or s i 0)) where
-      onward : number b top (drop at s) ≡ further b top (eqb i at) left v (get_or s i 0 ∷ drop (i + 1) s)
+    module _ (h : i < length s) where
+      onward : number b top (drop at s) ≡ further b top (eqb i at) (places b - (i - at)) v (get_or s i 0 ∷ drop (i + 1) s)
       onward = sym r.rest ∙ rw (add-one i, drop-cons s i 0 h)
 
       -- no digit
-      pub at_other : {ok : Bool} {value next : ℕ} → b ≤ d → Ends (eqb i at) v i ok value next → Reads (number b top) s at ok value next × (value ≤ top)
+      pub at_other : b ≤ digit_of (get_or s i 0) → Reads (number b top) s at (cond (ltb at i) (Some (v, i)) None)
       unfolding further
-      at_other g e =
-          finish (eqb i at) v i e (onward ∙ rw (← k, le-ltb d b g, add-one i, ← drop-cons s i 0 h)) r.small sound
+      at_other g =
+          finish _ (omega arith) l
+          (onward ∙ rw (le-ltb (digit_of (get_or s i 0)) b g, add-one i, ← drop-cons s i 0 h))
 
-      -- a digit that may not stand there
-      pub refused : {ok : Bool} {value next : ℕ} → d < b → takes b top left v d ≡ false → (ok ≡ false) × (value ≡ 0) × (next ≡ 0) → Reads (number b top) s at ok value next × (value ≤ top)
-      unfolding further
-      refused g f e = finish true v i e (onward ∙ rw (← k, lt-ltb d b g, f)) r.small (λ z. absurd (false≢true (sym z)))
+      module _ {d : ℕ} (k : d ≡ digit_of (get_or s i 0)) (g : d < b) where
+        -- a digit that may not stand there
+        pub refused : takes b top (places b - (i - at)) v d ≡ false → number b top (drop at s) ≡ none
+        unfolding further
+        refused f = onward ∙ rw (← k, lt-ltb d b g, f)
 
-      pub taken : d < b → takes b top left v d ≡ true → Reading (v * b + d) (i + 1) (left - 1) × (0 < left)
-      unfolding further
-      taken g f = (
-        record {
-          rest = rw (ne_eqb (i + 1) at (λ z. omega (arith, r.past))) (sym (onward ∙ rw (← k, lt-ltb d b g, f)));
-          small = leb-true (v * b + d) top (and_right (ltb 0 left) (leb (v * b + d) top) f);
-          place = λ z. omega arith;
-          past = omega (arith, r.past);
-        },
-        ltb-true 0 left (and_left (ltb 0 left) (leb (v * b + d) top) f),
-      )
+        pub taken : takes b top (places b - (i - at)) v d ≡ true → Reading (v * b + d) (i + 1)
+        unfolding further
+        taken f =
+            let e : places b - (i + 1 - at) ≡ places b - (i - at) - 1 = omega arith in
+            record {
+              rest = rw (ne_eqb (i + 1) at (λ z. omega arith), e) (sym (onward ∙ rw (← k, lt-ltb d b g, f)));
+              small = leb-true (v * b + d) top (and_right (ltb 0 (places b - (i - at))) (leb (v * b + d) top) f);
+            }

@@ -1,10 +1,9 @@
--- The writers' loops. Digits are laid from the last to the first: the digits still to come, over what is there, are all the digits over what was there.
+-- The writers' loops. Digits are laid from the last to the first: the digits still to come, before those that are there, are all the digits.
 -- A count goes on by one for each division. Assumes nothing.
-use Rattle.text.proofs.Kit.{◌≡◌, refl, sym, ap, ◌∙◌, Bool, true, false, cond, List, [], ◌∷◌, ◌++◌, append_assoc, ℕ, zero, suc, ◌+◌, ◌-◌, ◌/◌, ◌%◌, ◌<◌, ◌≤◌, arith, leb, lt-ltb, le-ltb, leb-true, length, drop, set, length-append, length-set, take-append-drop, drop-cons}
+use Rattle.text.proofs.Kit.{◌≡◌, refl, ◌∙◌, None, Some, List, [], ◌∷◌, ◌++◌, append_assoc, ℕ, zero, suc, ◌+◌, ◌/◌, ◌<◌, ◌≤◌, arith, lt-ltb, le-ltb, length, drop, set, length-append, length-set, take-append-drop, drop-cons}
 use lib.Seq.{take-set-le, drop-set-lt, get_or-set_same}
 use Rattle.text.specs.Readers.{over, Wrote}
-use Rattle.text.specs.Workers.{Room}
-use Rattle.text.specs.Numbers.{glyph, digits, size, numeral}
+use Rattle.text.specs.Numbers.{digits, size, numeral}
 use Rattle.text.proofs.Numbers.{length_digits}
 
 -- ---- how many
@@ -13,13 +12,8 @@ pub size_small : (b f w : ℕ) → w < b → size b f w ≡ 1
 size_small b zero w h = refl
 size_small b (suc f) w h = rw (lt-ltb w b h)
 
-pub size_none : (b f w : ℕ) → f ≤ 0 → size b f w ≡ 1
-size_none b zero w h = refl
-size_none b (suc f) w h = absurd (omega arith)
-
-pub size-more : (b f w : ℕ) → 0 < f → b ≤ w → size b f w ≡ suc (size b (f - 1) (w / b))
-size-more b zero w h k = absurd (omega arith)
-size-more b (suc f) w h k = let e : suc f - 1 ≡ f = omega arith in rw (le-ltb w b k, e)
+pub size-more : (b f g w : ℕ) → f ≡ suc g → b ≤ w → size b f w ≡ suc (size b g (w / b))
+size-more b f g w e k = rw (e, le-ltb w b k)
 
 pub length-numeral : (b v : ℕ) → length (numeral b v) ≡ size b 20 v
 unfolding numeral
@@ -40,54 +34,16 @@ over_last l g at o h =
     let n : at + length (l ++ (g ∷ [])) ≡ suc (at + length l) = omega (arith, length-append l (g ∷ [])) in
     rw (e, take-set-le at o (at + length l) g (omega arith), n, append_assoc l (g ∷ []) (drop (suc (at + length l)) o))
 
--- n bytes have no room, or are laid over what was there
-module _ (w o : List ℕ) (at : ℕ) {n : ℕ} (e : length w ≡ n) {ok : Bool} {next : ℕ} (r : Room n (length o) at ok next) where
-  wrote : {p : List ℕ} → p ≡ cond ok (over w at o) o → Wrote w o at p ok next
-  wrote b =
-      record { fits = r.fits ∙ ap (λ (k : ℕ). leb (at + k) (length o)) (sym e); bytes = b; place = r.place ∙ ap (λ (k : ℕ). cond ok (at + k) at) (sym e) }
+-- n bytes laid over those from a place on, where they have room
+module _ (w o : List ℕ) (at : ℕ) {n : ℕ} (e : length w ≡ n) where
+  pub no_room : length o < at + n → Wrote w o at o None
+  no_room h = (omega (arith, e), refl)
 
-  pub kept : ok ≡ false → Wrote w o at o ok next
-  kept h = wrote (sym (ap (λ (b : Bool). cond b (over w at o) o) h))
-
-  pub put : ok ≡ true → {p : List ℕ} → p ≡ over w at o → Wrote w o at p ok next
-  put h b = wrote (b ∙ sym (ap (λ (b : Bool). cond b (over w at o) o) h))
-
-pub roomy : {n len at : ℕ} {ok : Bool} {next : ℕ} → Room n len at ok next → ok ≡ true → at + n ≤ len
-roomy {n} {len} {at} r h = leb-true (at + n) len (sym r.fits ∙ h)
+  pub laid : at + n ≤ length o → {p : List ℕ} → p ≡ over w at o → {next : ℕ} → next ≡ at + n → Wrote w o at p (Some next)
+  laid h b k = record { room = omega (arith, e); bytes = b; place = omega (arith, e, k) }
 
 -- ---- the loop over digits
 
-module _ (b : ℕ) (o : List ℕ) (at n v : ℕ) where
-  -- i is where the digits of w are to end
-  pub record Laying (p : List ℕ) (w i : ℕ) : Type 0 where
-    pub left : over (digits b (i - at) w) at p ≡ over (digits b n v) at o
-    pub same : length p ≡ length o
-    pub low : at ≤ i
-    pub high : i ≤ length o
-
-  pub laying : at + n ≤ length o → Laying o v (at + n)
-  laying h =
-      let e : at + n - at ≡ n = omega arith in
-      record { left = rw e; same = refl; low = omega arith; high = h }
-
-  module _ {p : List ℕ} {w i : ℕ} (r : Laying p w i) where
-    pub laid_more : at < i → Laying (set p (i - 1) (glyph (w % b))) (w / b) (i - 1)
-    laid_more h =
-        let d = digits b (i - 1 - at) (w / b) in
-        let l : length d ≡ i - 1 - at = length_digits b (i - 1 - at) (w / b) in
-        let e : i - at ≡ suc (i - 1 - at) = omega arith in
-        let f : at + length d ≡ i - 1 = omega arith in
-        record {
-          left =
-              ap (λ (k : ℕ). over d at (set p k (glyph (w % b)))) (sym f)
-              ∙ sym (over_last d (glyph (w % b)) at p (omega (arith, r.same, r.high)))
-              ∙ (sym (ap (λ (k : ℕ). over (digits b k w) at p) e) ∙ r.left);
-          same = length-set p (i - 1) (glyph (w % b)) ∙ r.same;
-          low = omega arith;
-          high = omega (arith, r.high);
-        }
-
-    pub laid-all : i ≤ at → p ≡ over (digits b n v) at o
-    laid-all h =
-        let e : i - at ≡ 0 = omega arith in
-        sym (over_none at p) ∙ (sym (ap (λ (k : ℕ). over (digits b k w) at p) e) ∙ r.left)
+-- the digits still to come, before what is there, are all the digits
+abbrev pub Laying : ℕ → List ℕ → ℕ → List ℕ → ℕ → ℕ → Type 0
+Laying b o v p w i = digits b i w ++ drop i p ≡ digits b (length o) v

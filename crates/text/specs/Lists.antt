@@ -1,6 +1,6 @@
 -- Lists: items with commas between them, `-` for none; and logs, in pairs with colons (`0:1,1:0`) or flat.
-use Rattle.std.specs.Prelude.{◌≡◌, Bool, false, cond, not, ◌&&◌, List, [], ◌∷◌, ◌++◌, ℕ, zero, suc, ◌≤◌, length, take, drop}
-use Rattle.text.specs.Readers.{Got, none, got, answer, starts}
+use Rattle.std.specs.Prelude.{Result, Ok, Err, ◌≡◌, Bool, false, cond, not, ◌&&◌, List, [], ◌∷◌, ◌++◌, ℕ, zero, suc, ◌≤◌, length, take, drop}
+use Rattle.text.specs.Readers.{Got, none, got, starts}
 use Rattle.text.specs.Numbers.{no_digit}
 
 -- what stands between items: a colon behind a pair's first, a comma behind any other
@@ -71,10 +71,22 @@ SpellsList Item [] w = w ≡ 45 ∷ []
 SpellsList Item (v ∷ []) w = Item v w
 SpellsList Item (v ∷ x ∷ l) w = Parted (Item v) (SpellsList Item (x ∷ l)) w
 
--- a list was read, by a reader for as many items as there is room for, into a slice that held o and holds p now; behind what was read p is as it was
-pub record Fills {A : Type 0} (read : ℕ → List ℕ → Got (List A)) (s : List ℕ) (at : ℕ) (o p : List A) (ok : Bool) (count next : ℕ) : Type 0 where
-  pub is : read (length o) (drop at s) ≡ answer ok (take count p) (drop next s)
+-- `count` items were read, by a reader for as many as there is room for, into a slice that held o and holds p now; behind them p is as it was
+pub record Filled {A : Type 0} (read : ℕ → List ℕ → Got (List A)) (s : List ℕ) (at : ℕ) (o p : List A) (count next : ℕ) : Type 0 where
+  pub is : read (length o) (drop at s) ≡ got (take count p) (drop next s)
   pub within : next ≤ length s
   pub room : count ≤ length o
   pub same : length p ≡ length o
   pub rest : drop count p ≡ drop count o
+
+-- none was read; `count` items were taken of it, and behind them p is as it was
+pub record Unread {A : Type 0} (read : ℕ → List ℕ → Got (List A)) (s : List ℕ) (at : ℕ) (o p : List A) (count : ℕ) : Type 0 where
+  pub is : read (length o) (drop at s) ≡ none
+  pub room : count ≤ length o
+  pub same : length p ≡ length o
+  pub rest : drop count p ≡ drop count o
+
+-- what is answered of a place of s: how many items were read and the place behind them, or how many were taken of what is no list
+abbrev pub Fills : {A : Type 0} → (ℕ → List ℕ → Got (List A)) → List ℕ → ℕ → List A → List A → Result (ℕ × ℕ) ℕ → Type 0
+Fills read s at o p (Err k) = Unread read s at o p k
+Fills read s at o p (Ok r) = Filled read s at o p r.0 r.1

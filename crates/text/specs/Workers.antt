@@ -1,44 +1,25 @@
 -- What inner functions ask and leave.
-use Rattle.std.specs.Prelude.{◌≡◌, Bool, true, false, cond, not, List, [], ◌∷◌, ◌++◌, ℕ, ◌+◌, ◌≤◌, leb, length, drop}
-use Rattle.text.specs.Readers.{starts, answer, Added}
-use Rattle.text.specs.Numbers.{octet}
-use Rattle.text.specs.Lists.{dash, mark}
+use Rattle.std.specs.Prelude.{◌≡◌, true, false, Option, None, Some, List, ℕ, ◌+◌, ◌<◌, ◌≤◌, length, drop}
+use Rattle.text.specs.Readers.{starts}
+use Rattle.text.specs.Numbers.{digit_of}
 
--- what stands behind the byte c; nothing where it does not come first
-abbrev pub past : ℕ → List ℕ → List ℕ
-past c s = cond (starts c s) (drop 1 s) []
-
--- whether the byte c stands at a place, and a place behind it; the end, where nothing is read, if it does not
-pub record Passes (c : ℕ) (s : List ℕ) (at : ℕ) (ok : Bool) (i : ℕ) : Type 0 where
-  pub is : ok ≡ starts c (drop at s)
-  pub rest : drop i s ≡ past c (drop at s)
+-- the byte c stands at a place, and i is behind it
+pub record Passed (c : ℕ) (s : List ℕ) (at i : ℕ) : Type 0 where
+  pub is : starts c (drop at s) ≡ true
+  pub rest : drop i s ≡ drop 1 (drop at s)
   pub within : i ≤ length s
 
--- A list's reader goes on to at most `left` items at the place i, or has ended there, well (ok) or not; it starts behind a space.
-pub data Opens (s : List ℕ) (at room : ℕ) : ℕ → Bool → ℕ → Type 0 where
-  no_item : {i : ℕ} → dash (past 32 (drop at s)) ≡ true → drop i s ≡ drop 1 (past 32 (drop at s)) → i ≤ length s → Opens s at room 0 true i
-  an_item : {i : ℕ} → dash (past 32 (drop at s)) ≡ false → drop i s ≡ past 32 (drop at s) → i ≤ length s → Opens s at room room false i
+-- the place behind the byte c, if it stands at a place
+abbrev pub Passes : ℕ → List ℕ → ℕ → Option ℕ → Type 0
+Passes c s at None = starts c (drop at s) ≡ false
+Passes c s at (Some i) = Passed c s at i
 
--- the same behind an item, a pair's first or not, which was read or not, and ends at j
-pub data Follows (s : List ℕ) (first : Bool) (j room : ℕ) (read : Bool) : ℕ → Bool → ℕ → Type 0 where
-  broken : read ≡ false → Follows s first j room read 0 false j
-  last : read ≡ true → starts (mark first) (drop j s) ≡ false → Follows s first j room read 0 (not first) j
-  another : {i : ℕ} → read ≡ true → starts (mark first) (drop j s) ≡ true → drop i s ≡ drop 1 (drop j s) → i ≤ length s → Follows s first j room read room false i
+-- the digit of a byte in a base, if it is one
+abbrev pub DigitIn : ℕ → ℕ → Option ℕ → Type 0
+DigitIn base c None = base ≤ digit_of c
+DigitIn base c (Some d) = (d ≡ digit_of c) × (d < base)
 
--- the text v is added to whatever was added before it, where that fitted
-pub record Adds (v p : List ℕ) (ok : Bool) (i : ℕ) (q : List ℕ) (good : Bool) (j : ℕ) : Type 0 where
-  pub also : {w o : List ℕ} {at : ℕ} → Added w o at p ok i → Added (w ++ v) o at q good j
-  pub same : length q ≡ length p
-
--- two bytes are the digits of a byte or not
-abbrev pub Pairs : ℕ → ℕ → Bool → ℕ → Type 0
-Pairs c d ok v = (t : List ℕ) → octet (c ∷ d ∷ t) ≡ answer ok v t
-
--- a mark, as that between an item and more
-abbrev pub between : Bool → ℕ → List ℕ
-between more c = cond more (c ∷ []) []
-
--- whether n bytes have room in `len` from a place on, and the place behind them
-pub record Room (n len at : ℕ) (ok : Bool) (next : ℕ) : Type 0 where
-  pub fits : ok ≡ leb (at + n) len
-  pub place : next ≡ cond ok (at + n) at
+-- the place behind n bytes, if they have room in `len` from a place on
+abbrev pub Room : ℕ → ℕ → ℕ → Option ℕ → Type 0
+Room n len at None = len < at + n
+Room n len at (Some next) = (at + n ≤ len) × (next ≡ at + n)

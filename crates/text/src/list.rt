@@ -1,46 +1,80 @@
 // Lists out of text into lent slices, as fields of a line: a space, and then the list. A list that is longer than its slice is not read;
 // what was taken of it by then stands there.
-ghost use Rattle.std.specs.Prelude.{◌≡◌, drop};
+ghost use Rattle.std.specs.Prelude.{◌≡◌, List, ℕ, drop};
+ghost use Rattle.text.specs.Readers.{Got, Reads};
 ghost use Rattle.text.specs.Numbers.{number, octet as Numbers·octet, integer as Numbers·integer, float as Numbers·float};
-ghost use Rattle.text.specs.Lists.{Fills, list, log, colon as Lists·colon, mark as Lists·mark};
+ghost use Rattle.text.specs.Lists.{Fills, list, log, items_of, colon as Lists·colon, mark as Lists·mark, dash as Lists·dash};
 ghost use Rattle.text.specs.Lines.{field_of};
-ghost use Rattle.text.specs.Workers.{Opens, Follows};
 
 use crate::read::{decimal, float, hexadecimal, integer, no_digit, octet, past, starts};
 
-// Whether there is a list, how many items were taken, and the place behind it.
-#[derive(Drop)]
-pub struct Listed {
-    pub ok: bool,
-    pub count: usize,
-    pub at: usize,
+// A kind of item: how one is read.
+trait Item<T: Copy> {
+    ghost reads: { List ℕ → Got T };
+
+    fn read(s: &[u8], at: usize) -> Option<(T, usize)>
+        ensures { Reads reads s.now at result };
 }
 
-// Where a list is read on: so many items may be left there, or it has ended, well or not.
-#[derive(Drop)]
-struct Next {
-    left: usize,
-    ok: bool,
-    at: usize,
-}
+struct Word;
 
-// A list starts: with an item, or it is the empty list.
-fn opens(s: &[u8], at: usize, room: usize) -> Next
-    ensures { Opens s.now at room result.left result.ok result.at }
-{
-    let start = past(b' ', s, at);
-    let minus = past(b'-', s, start.at);
-    if minus.ok & no_digit(s, minus.at) {
-        return Next {
-            left: 0,
-            ok: true,
-            at: minus.at,
-        };
+impl Item<u64> for Word {
+    ghost reads = { number 16 18446744073709551615 };
+
+    fn read(s: &[u8], at: usize) -> Option<(u64, usize)> {
+        hexadecimal(s, at)
     }
-    Next {
-        left: room,
-        ok: false,
-        at: start.at,
+}
+
+struct Half;
+
+impl Item<u16> for Half {
+    ghost reads = { number 10 65535 };
+
+    fn read(s: &[u8], at: usize) -> Option<(u16, usize)> {
+        let (v, next) = decimal(s, at, 65535)?;
+        Some((v as u16, next))
+    }
+}
+
+struct Byte;
+
+impl Item<u8> for Byte {
+    ghost reads = { number 10 255 };
+
+    fn read(s: &[u8], at: usize) -> Option<(u8, usize)> {
+        let (v, next) = decimal(s, at, 255)?;
+        Some((v as u8, next))
+    }
+}
+
+struct Octet;
+
+impl Item<u8> for Octet {
+    ghost reads = { Numbers·octet };
+
+    fn read(s: &[u8], at: usize) -> Option<(u8, usize)> {
+        octet(s, at)
+    }
+}
+
+struct Int;
+
+impl Item<i32> for Int {
+    ghost reads = { Numbers·integer 2147483647 };
+
+    fn read(s: &[u8], at: usize) -> Option<(i32, usize)> {
+        integer(s, at)
+    }
+}
+
+struct Float;
+
+impl Item<f64> for Float {
+    ghost reads = { Numbers·float };
+
+    fn read(s: &[u8], at: usize) -> Option<(f64, usize)> {
+        float(s, at)
     }
 }
 
@@ -51,147 +85,115 @@ fn mark(first: bool) -> u8
     if first { b':' } else { b',' }
 }
 
-// What stands behind an item, which was read or not: a mark before another, or the list's end, which no pair's first is.
-fn follows(s: &[u8], first: bool, read: bool, at: usize, room: usize) -> Next
-    ensures { Follows s.now first at room read result.left result.ok result.at }
+// One item or more, in pairs or not, and no more than `out` has room for.
+fn items<T: Copy, I: Item<T>>(
+    s: &[u8],
+    at: usize,
+    pairs: bool,
+    out: &mut [T],
+) -> Result<(usize, usize), usize>
+    ensures { Fills (items_of pairs pairs I.reads) s.now at out.old out.new result }
 {
-    let there = past(mark(first), s, at);
-    if read & there.ok {
-        return Next {
-            left: room,
-            ok: false,
-            at: there.at,
+    let mut at = at;
+    let mut first = pairs;
+    for n in 0..out.len() {
+        let Some((v, i)) = I::read(s, at) else {
+            return Err(n);
         };
+        out[n] = v;
+        let Some(next) = past(mark(first), s, i) else {
+            return if first { Err(n + 1) } else { Ok((n + 1, i)) };
+        };
+        at = next;
+        first = pairs & !first;
     }
-    Next {
-        left: 0,
-        ok: read & !first,
-        at,
+    Err(out.len())
+}
+
+// Whether the minus that stands for the empty list is at a place, and not one before a number.
+fn dash(s: &[u8], at: usize) -> bool
+    ensures { result ≡ Lists·dash (drop at s.now) }
+{
+    match past(b'-', s, at) {
+        Some(i) => no_digit(s, i),
+        None => false,
     }
 }
 
-fn taken(p: Next, count: usize) -> Listed
-    ensures { (result.ok ≡ p.ok) × (result.count ≡ count) × (result.at ≡ p.at) }
+fn list_field<T: Copy, I: Item<T>>(
+    s: &[u8],
+    at: usize,
+    out: &mut [T],
+) -> Result<(usize, usize), usize>
+    ensures { Fills (field_of (list I.reads)) s.now at out.old out.new result }
 {
-    Listed {
-        ok: p.ok,
-        count,
-        at: p.at,
+    let Some(at) = past(b' ', s, at) else {
+        return Err(0);
+    };
+    if dash(s, at) {
+        return Ok((0, at + 1));
     }
-}
-
-// ---- a function for each width: what is no item is taken for 0, and ends the list
-
-pub fn words_field(s: &[u8], at: usize, out: &mut [u64]) -> Listed
-    ensures { Fills (field_of (list (number 16 18446744073709551615))) s.now at
-        out.old out.new result.ok result.count result.at }
-{
-    let mut n = 0;
-    let mut p = opens(s, at, out.len());
-    while p.left > 0 {
-        let r = hexadecimal(s, p.at);
-        out[n] = r.value;
-        n += 1;
-        p = follows(s, false, r.ok, r.at, p.left - 1);
-    }
-    taken(p, n)
-}
-
-pub fn halves_field(s: &[u8], at: usize, out: &mut [u16]) -> Listed
-    ensures { Fills (field_of (list (number 10 65535))) s.now at out.old out.new result.ok result.count result.at }
-{
-    let mut n = 0;
-    let mut p = opens(s, at, out.len());
-    while p.left > 0 {
-        let r = decimal(s, p.at, 65535);
-        out[n] = r.value as u16;
-        n += 1;
-        p = follows(s, false, r.ok, r.at, p.left - 1);
-    }
-    taken(p, n)
+    items::<T, I>(s, at, false, out)
 }
 
 // Whether a colon stands behind the number here.
 fn colon(s: &[u8], at: usize) -> bool
     ensures { result ≡ Lists·colon (number 10 65535 (drop at s.now)) }
 {
-    let r = decimal(s, at, 65535);
-    r.ok & starts(b':', s, r.at)
+    match decimal(s, at, 65535) {
+        Some((_, i)) => starts(b':', s, i),
+        None => false,
+    }
 }
 
 // A log, flat or in pairs: `0,1,1,0` or `0:1,1:0`.
-pub fn log_field(s: &[u8], at: usize, out: &mut [u16]) -> Listed
-    ensures { Fills (field_of (log (number 10 65535))) s.now at out.old out.new result.ok result.count result.at }
+pub fn log_field(s: &[u8], at: usize, out: &mut [u16]) -> Result<(usize, usize), usize>
+    ensures { Fills (field_of (log (number 10 65535))) s.now at out.old out.new result }
 {
-    let mut n = 0;
-    let mut p = opens(s, at, out.len());
-    let pairs = colon(s, p.at);
-    let mut first = pairs;
-    while p.left > 0 {
-        let r = decimal(s, p.at, 65535);
-        out[n] = r.value as u16;
-        n += 1;
-        p = follows(s, first, r.ok, r.at, p.left - 1);
-        first = pairs & !first;
+    let Some(at) = past(b' ', s, at) else {
+        return Err(0);
+    };
+    if dash(s, at) {
+        return Ok((0, at + 1));
     }
-    taken(p, n)
+    items::<u16, Half>(s, at, colon(s, at), out)
 }
 
-pub fn bytes_field(s: &[u8], at: usize, out: &mut [u8]) -> Listed
-    ensures { Fills (field_of (list (number 10 255))) s.now at out.old out.new result.ok result.count result.at }
+// ---- lists by what they are of; each answers how many items there were, and the place behind them, or how many were taken of what is no list
+
+pub fn words_field(s: &[u8], at: usize, out: &mut [u64]) -> Result<(usize, usize), usize>
+    ensures { Fills (field_of (list (number 16 18446744073709551615))) s.now at out.old out.new result }
 {
-    let mut n = 0;
-    let mut p = opens(s, at, out.len());
-    while p.left > 0 {
-        let r = decimal(s, p.at, 255);
-        out[n] = r.value as u8;
-        n += 1;
-        p = follows(s, false, r.ok, r.at, p.left - 1);
-    }
-    taken(p, n)
+    list_field::<u64, Word>(s, at, out)
+}
+
+pub fn halves_field(s: &[u8], at: usize, out: &mut [u16]) -> Result<(usize, usize), usize>
+    ensures { Fills (field_of (list (number 10 65535))) s.now at out.old out.new result }
+{
+    list_field::<u16, Half>(s, at, out)
+}
+
+pub fn bytes_field(s: &[u8], at: usize, out: &mut [u8]) -> Result<(usize, usize), usize>
+    ensures { Fills (field_of (list (number 10 255))) s.now at out.old out.new result }
+{
+    list_field::<u8, Byte>(s, at, out)
 }
 
 // Bytes by two digits each in hexadecimal.
-pub fn octets_field(s: &[u8], at: usize, out: &mut [u8]) -> Listed
-    ensures { Fills (field_of (list Numbers·octet)) s.now at out.old out.new result.ok result.count result.at }
+pub fn octets_field(s: &[u8], at: usize, out: &mut [u8]) -> Result<(usize, usize), usize>
+    ensures { Fills (field_of (list Numbers·octet)) s.now at out.old out.new result }
 {
-    let mut n = 0;
-    let mut p = opens(s, at, out.len());
-    while p.left > 0 {
-        let r = octet(s, p.at);
-        out[n] = r.value as u8;
-        n += 1;
-        p = follows(s, false, r.ok, r.at, p.left - 1);
-    }
-    taken(p, n)
+    list_field::<u8, Octet>(s, at, out)
 }
 
-pub fn ints_field(s: &[u8], at: usize, out: &mut [i32]) -> Listed
-    ensures { Fills (field_of (list (Numbers·integer 2147483647))) s.now at
-        out.old out.new result.ok result.count result.at }
+pub fn ints_field(s: &[u8], at: usize, out: &mut [i32]) -> Result<(usize, usize), usize>
+    ensures { Fills (field_of (list (Numbers·integer 2147483647))) s.now at out.old out.new result }
 {
-    let mut n = 0;
-    let mut p = opens(s, at, out.len());
-    while p.left > 0 {
-        let r = integer(s, p.at);
-        let v = r.value;
-        out[n] = v;
-        n += 1;
-        p = follows(s, false, r.ok, r.at, p.left - 1);
-    }
-    taken(p, n)
+    list_field::<i32, Int>(s, at, out)
 }
 
-pub fn floats_field(s: &[u8], at: usize, out: &mut [f64]) -> Listed
-    ensures { Fills (field_of (list Numbers·float)) s.now at out.old out.new result.ok result.count result.at }
+pub fn floats_field(s: &[u8], at: usize, out: &mut [f64]) -> Result<(usize, usize), usize>
+    ensures { Fills (field_of (list Numbers·float)) s.now at out.old out.new result }
 {
-    let mut n = 0;
-    let mut p = opens(s, at, out.len());
-    while p.left > 0 {
-        let r = float(s, p.at);
-        out[n] = r.value;
-        n += 1;
-        p = follows(s, false, r.ok, r.at, p.left - 1);
-    }
-    taken(p, n)
+    list_field::<f64, Float>(s, at, out)
 }

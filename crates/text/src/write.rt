@@ -1,174 +1,117 @@
-// Numbers into text. The digits are counted first, so that a number that does not fit leaves all as it was.
-ghost use Rattle.std.specs.Prelude.{◌≡◌, [], ◌∷◌, ◌+◌, ◌≤◌, ◌<◌, length, nat_abs};
-ghost use Rattle.text.specs.Readers.{Wrote, over};
+// Numbers into text: each writer answers the place behind its text. The digits are counted first, so that a number that does not fit
+// leaves all as it was.
+ghost use Rattle.std.specs.Prelude.{◌≡◌, [], ◌∷◌, ◌+◌, ◌≤◌, ◌<◌, length};
+ghost use Rattle.text.specs.Readers.{Wrote};
 ghost use Rattle.text.specs.Workers.{Room};
 ghost use Rattle.text.specs.Numbers.{digits, numeral, integral, pattern, glyph as Numbers·glyph, size as Numbers·size};
 
-// Whether the text fitted, and the place behind it; the place that was given where it did not.
-#[derive(Drop)]
-pub struct Put {
-    pub ok: bool,
-    pub at: usize,
-}
-
+#[tactic(auto, unfolding(crate::specs::Numbers::glyph))]
 fn glyph(d: u64) -> u8
     requires { d < 16 }
     ensures { result ≡ Numbers·glyph d }
 {
-    if d < 10 {
-        return 48 + d as u8;
-    }
-    87 + d as u8
+    if d < 10 { 48 + d as u8 } else { 87 + d as u8 }
 }
 
-// A u64 has at most 20 digits in base 10 or more.
-const MOST_DIVISIONS: usize = 20;
+// A u64 has at most 20 digits in base 10 or more: one past them.
+const MOST_DIGITS: usize = 21;
 
 fn size(base: u64, v: u64) -> usize
     requires { 1 < base }
     ensures { (result ≡ Numbers·size base 20 v) × (result ≤ 21) }
 {
-    let mut n: usize = 1;
     let mut w = v;
-    let mut turns = MOST_DIVISIONS;
-    while turns > 0 {
+    for n in 1..MOST_DIGITS {
         if w < base {
             return n;
         }
         w = w / base;
-        n += 1;
-        turns -= 1;
     }
-    n
+    MOST_DIGITS
 }
 
-// Whether n bytes have room from a place on, and the place behind them.
-fn room(len: usize, at: usize, n: usize) -> Put
-    ensures { Room n len at result.ok result.at }
+// The place behind n bytes, if they have room from a place on.
+fn room(len: usize, at: usize, n: usize) -> Option<usize>
+    ensures { Room n len at result }
 {
-    if at > len {
-        return Put { ok: false, at };
-    }
-    if n > len - at {
-        return Put { ok: false, at };
-    }
-    Put {
-        ok: true,
-        at: at + n,
+    if n <= len && at <= len - n {
+        Some(at + n)
+    } else {
+        None
     }
 }
 
-// The last n digits of v, from the last to the first.
-fn put_digits(out: &mut [u8], at: usize, base: u64, n: usize, v: u64)
-    requires { (1 < base) × (base ≤ 16) × (at + n ≤ length out.old) }
-    ensures { out.new ≡ over (digits base n v) at out.old }
+// The last digits of v, as many as there is room for, from the last to the first.
+fn put_digits(out: &mut [u8], base: u64, v: u64)
+    requires { (1 < base) × (base ≤ 16) }
+    ensures { out.new ≡ digits base (length out.old) v }
 {
     let mut w = v;
-    let mut i = at + n;
-    while i > at {
-        i -= 1;
+    for i in (0..out.len()).rev() {
         out[i] = glyph(w % base);
         w = w / base;
     }
 }
 
-fn put_run(out: &mut [u8], at: usize, base: u64, n: usize, v: u64) -> Put
+fn put_run(out: &mut [u8], at: usize, base: u64, n: usize, v: u64) -> Option<usize>
     requires { (1 < base) × (base ≤ 16) }
-    ensures { Wrote (digits base n v) out.old at out.new result.ok result.at }
+    ensures { Wrote (digits base n v) out.old at out.new result }
 {
-    let r = room(out.len(), at, n);
-    if !r.ok {
-        return r;
-    }
-    put_digits(out, at, base, n, v);
-    r
+    let end = room(out.len(), at, n)?;
+    put_digits(&mut out[at..end], base, v);
+    Some(end)
 }
 
 // A number in base 10 or 16.
-pub(crate) fn put_numeral(out: &mut [u8], at: usize, base: u64, v: u64) -> Put
+pub(crate) fn put_numeral(out: &mut [u8], at: usize, base: u64, v: u64) -> Option<usize>
     requires { (1 < base) × (base ≤ 16) }
-    ensures { Wrote (numeral base v) out.old at out.new result.ok result.at }
+    ensures { Wrote (numeral base v) out.old at out.new result }
 {
     let n = size(base, v);
     put_run(out, at, base, n, v)
 }
 
-pub fn put_decimal(out: &mut [u8], at: usize, v: u64) -> Put
-    ensures { Wrote (numeral 10 v) out.old at out.new result.ok result.at }
+pub fn put_decimal(out: &mut [u8], at: usize, v: u64) -> Option<usize>
+    ensures { Wrote (numeral 10 v) out.old at out.new result }
 {
     put_numeral(out, at, 10, v)
 }
 
-pub fn put_hexadecimal(out: &mut [u8], at: usize, v: u64) -> Put
-    ensures { Wrote (numeral 16 v) out.old at out.new result.ok result.at }
+pub fn put_hexadecimal(out: &mut [u8], at: usize, v: u64) -> Option<usize>
+    ensures { Wrote (numeral 16 v) out.old at out.new result }
 {
     put_numeral(out, at, 16, v)
 }
 
-pub fn put_byte(out: &mut [u8], at: usize, c: u8) -> Put
-    ensures { Wrote (c ∷ []) out.old at out.new result.ok result.at }
+pub fn put_byte(out: &mut [u8], at: usize, c: u8) -> Option<usize>
+    ensures { Wrote (c ∷ []) out.old at out.new result }
 {
-    let r = room(out.len(), at, 1);
-    if !r.ok {
-        return r;
-    }
+    let end = room(out.len(), at, 1)?;
     out[at] = c;
-    r
+    Some(end)
 }
 
-// The bytes s, which have room.
-fn copy(out: &mut [u8], at: usize, s: &[u8])
-    requires { at + length s.now ≤ length out.old }
-    ensures { out.new ≡ over s.now at out.old }
+pub fn put_text(out: &mut [u8], at: usize, s: &[u8]) -> Option<usize>
+    ensures { Wrote s.now out.old at out.new result }
 {
-    let n = s.len();
-    let mut i = 0;
-    while i < n {
-        out[at + i] = s[i];
-        i += 1;
-    }
-}
-
-pub fn put_text(out: &mut [u8], at: usize, s: &[u8]) -> Put
-    ensures { Wrote s.now out.old at out.new result.ok result.at }
-{
-    let r = room(out.len(), at, s.len());
-    if !r.ok {
-        return r;
-    }
-    copy(out, at, s);
-    r
-}
-
-// v without its sign.
-fn magnitude(v: i64) -> u64
-    ensures { result ≡ nat_abs v }
-{
-    if v < 0 {
-        let u = (-1 - v) as u64;
-        u + 1
-    } else {
-        v as u64
-    }
+    let end = room(out.len(), at, s.len())?;
+    out[at..end].copy_from_slice(s);
+    Some(end)
 }
 
 // A minus and a number.
-fn put_minus(out: &mut [u8], at: usize, m: u64) -> Put
-    ensures { Wrote (45 ∷ numeral 10 m) out.old at out.new result.ok result.at }
+fn put_minus(out: &mut [u8], at: usize, m: u64) -> Option<usize>
+    ensures { Wrote (45 ∷ numeral 10 m) out.old at out.new result }
 {
-    let n = size(10, m);
-    let r = room(out.len(), at, n + 1);
-    if !r.ok {
-        return r;
-    }
-    put_byte(out, at, b'-');
-    put_decimal(out, at + 1, m)
+    room(out.len(), at, size(10, m) + 1)?;
+    let at = put_byte(out, at, b'-')?;
+    put_decimal(out, at, m)
 }
 
-pub fn put_integer(out: &mut [u8], at: usize, v: i64) -> Put
-    ensures { Wrote (integral v) out.old at out.new result.ok result.at }
+pub fn put_integer(out: &mut [u8], at: usize, v: i64) -> Option<usize>
+    ensures { Wrote (integral v) out.old at out.new result }
 {
-    let m = magnitude(v);
+    let m = v.unsigned_abs();
     if v < 0 {
         return put_minus(out, at, m);
     }
@@ -186,8 +129,8 @@ fn bits_of(x: f64) -> u64
 }
 
 // A float's bits, in 16 digits.
-pub fn put_float(out: &mut [u8], at: usize, x: f64) -> Put
-    ensures { Wrote (digits 16 16 (pattern x)) out.old at out.new result.ok result.at }
+pub fn put_float(out: &mut [u8], at: usize, x: f64) -> Option<usize>
+    ensures { Wrote (digits 16 16 (pattern x)) out.old at out.new result }
 {
     let bits = bits_of(x);
     put_run(out, at, 16, 16, bits)

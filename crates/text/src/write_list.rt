@@ -1,88 +1,95 @@
 // Lists into text. Where a list does not fit, the bytes before its place are as they were, and those behind it are open.
-ghost use Rattle.std.specs.Prelude.{◌≡◌, ◌++◌, ◌<◌, ◌≤◌};
+ghost use Rattle.std.specs.Prelude.{◌≡◌, ◌∷◌, ℕ, ◌<◌, ◌≤◌};
 ghost use Rattle.text.specs.Readers.{Added};
 ghost use Rattle.text.specs.Numbers.{numeral};
-ghost use Rattle.text.specs.Lists.{listed};
-ghost use Rattle.text.specs.Workers.{Adds, between};
+ghost use Rattle.text.specs.Lists.{joined, listed};
 
-use crate::read::wide;
-use crate::write::{Put, put_byte, put_numeral};
+use crate::write::{put_byte, put_numeral};
 
-// The byte c where there is `more`, and the text before it fitted.
-fn put_mark(out: &mut [u8], r: Put, c: u8, more: bool) -> Put
-    ensures { Adds (between more c) out.old r.ok r.at out.new result.ok result.at }
-{
-    if !(r.ok & more) {
-        return r;
-    }
-    put_byte(out, r.at, c)
+// An unsigned number of any width.
+trait Unsigned: Copy {
+    ghost value: { Self → ℕ };
+
+    fn wide(self) -> u64
+        ensures { result ≡ value self };
 }
 
-// A number, and a comma before more items.
-fn put_item(out: &mut [u8], r: Put, base: u64, v: u64, more: bool) -> Put
+impl Unsigned for u8 {
+    ghost value = { λ v. v };
+
+    fn wide(self) -> u64 {
+        u64::from(self)
+    }
+}
+
+impl Unsigned for u16 {
+    ghost value = { λ v. v };
+
+    fn wide(self) -> u64 {
+        u64::from(self)
+    }
+}
+
+impl Unsigned for u64 {
+    ghost value = { λ v. v };
+
+    fn wide(self) -> u64 {
+        self
+    }
+}
+
+// A comma and a number.
+fn put_further(out: &mut [u8], at: usize, base: u64, v: u64) -> Option<usize>
     requires { (1 < base) × (base ≤ 16) }
-    ensures { Adds (numeral base v ++ between more 44) out.old r.ok r.at out.new result.ok result.at }
+    ensures { Added (44 ∷ numeral base v) out.old at out.new result }
 {
-    if !r.ok {
-        return r;
-    }
-    let q = put_numeral(out, r.at, base, v);
-    put_mark(out, q, b',', more)
+    let at = put_byte(out, at, b',')?;
+    put_numeral(out, at, base, v)
 }
 
-pub fn put_words(out: &mut [u8], at: usize, xs: &[u64]) -> Put
-    ensures { Added (listed (numeral 16) xs.now) out.old at out.new result.ok result.at }
+// A number, and others with a comma before each.
+fn put_joined<T: Unsigned>(
+    out: &mut [u8],
+    at: usize,
+    base: u64,
+    first: T,
+    others: &[T],
+) -> Option<usize>
+    requires { (1 < base) × (base ≤ 16) }
+    ensures { Added (joined (λ x. numeral base (T.value x)) first others.now) out.old at out.new result }
 {
-    let n = xs.len();
-    let mut r = Put {
-        ok: at <= out.len(),
-        at,
-    };
-    let mut i = 0;
-    while i < n {
-        let v = xs[i];
-        i += 1;
-        r = put_item(out, r, 16, v, i < n);
+    let mut end = put_numeral(out, at, base, first.wide())?;
+    for x in others {
+        end = put_further(out, end, base, x.wide())?;
     }
-    put_mark(out, r, b'-', n == 0)
+    Some(end)
 }
 
-pub fn put_bytes(out: &mut [u8], at: usize, xs: &[u8]) -> Put
-    ensures { Added (listed (numeral 10) xs.now) out.old at out.new result.ok result.at }
+// Numbers with commas between them; a minus for none.
+fn put_list<T: Unsigned>(out: &mut [u8], at: usize, base: u64, xs: &[T]) -> Option<usize>
+    requires { (1 < base) × (base ≤ 16) }
+    ensures { Added (listed (λ x. numeral base (T.value x)) xs.now) out.old at out.new result }
 {
-    let n = xs.len();
-    let mut r = Put {
-        ok: at <= out.len(),
-        at,
-    };
-    let mut i = 0;
-    while i < n {
-        let v = wide(xs[i]);
-        i += 1;
-        r = put_item(out, r, 10, v, i < n);
+    match xs {
+        [] => put_byte(out, at, b'-'),
+        [first, others @ ..] => put_joined(out, at, base, *first, others),
     }
-    put_mark(out, r, b'-', n == 0)
 }
 
-pub fn put_halves(out: &mut [u8], at: usize, xs: &[u16]) -> Put
-    ensures { Added (listed (numeral 10) xs.now) out.old at out.new result.ok result.at }
+pub fn put_words(out: &mut [u8], at: usize, xs: &[u64]) -> Option<usize>
+    ensures { Added (listed (numeral 16) xs.now) out.old at out.new result }
 {
-    let n = xs.len();
-    let mut r = Put {
-        ok: at <= out.len(),
-        at,
-    };
-    let mut i = 0;
-    while i < n {
-        let v = wide_half(xs[i]);
-        i += 1;
-        r = put_item(out, r, 10, v, i < n);
-    }
-    put_mark(out, r, b'-', n == 0)
+    put_list(out, at, 16, xs)
 }
 
-fn wide_half(b: u16) -> u64
-    ensures { result ≡ b }
+pub fn put_bytes(out: &mut [u8], at: usize, xs: &[u8]) -> Option<usize>
+    ensures { Added (listed (numeral 10) xs.now) out.old at out.new result }
 {
-    b as u64
+    put_list(out, at, 10, xs)
+}
+
+pub fn put_halves(out: &mut [u8], at: usize, xs: &[u16]) -> Option<usize>
+    ensures { Added (listed (numeral 10) xs.now) out.old at out.new result }
+{
+    put_list(out, at, 10, xs)
 }

@@ -3,26 +3,22 @@
 use mathlib.Core.Path.{◌≡◌, refl, sym, ap, ap₂, ◌∙◌, subst}
 use mathlib.Core.Logic.{◌↔◌}
 use mathlib.Core.List.{List, ◌++◌}
-use Prim.Native.Nat.{ℕ, zero, suc, ◌*◌}
-use native.Mathlib.Nat.{suc-ne-zero}
+use Prim.Native.Nat.{ℕ, suc, ◌*◌}
 use lib.ListN.{take}
-use Rattle.encoding.specs.Refusals.{left_or}
-use Rattle.encoding.proofs.Faults.{or_else, or-none}
+use Rattle.encoding.specs.Refusals.{answer_or, left_or}
+use Rattle.encoding.proofs.Faults.{or_else, or-none, passed-by}
 use Rattle.encoding.proofs.Ranks.{Given}
 use Rattle.reduction.specs.Checker as checker
-use Rattle.terms.specs.Calls.{Reduces}
-use Rattle.terms.specs.declared.Canonicalized.TheVariants.{Done}
+use Rattle.terms.specs.Calls.{Reduces, Done}
 use Rattle.terms.proofs.Finished.{finished}
-use Rattle.replay.specs.Check.{Task, Claim, claim, check_fault, given_or, verdict_on, working_for, Checked}
+use Rattle.replay.specs.Check.{CheckAnswer, Yes, Refused, given, Task, Claim, claim, check_fault, given_or, verdict_on, working_for, Checked}
 use Rattle.replay.specs.Demand.{RightClaim, EveryColumn, NoPhaseAtStart}
-use Rattle.replay.specs.declared.Verdict.{Verdict}
-use Rattle.replay.specs.declared.Verdict.TheVariants.{BadEntry, Differs, NotReduced, Yes, Refused}
 use Rattle.replay.proofs.Demand as replay
 use Rattle.replay.proofs.OwnLog.{own-passes, own-accepted}
 use Rattle.pwl.specs.Bytes.{Bytes}
 use Rattle.pwl.specs.File.{Run, Fit, image, read_run, file_lines, file_fault}
 use Rattle.pwl.specs.Calls.{task_of, claim_of, run_lines, Writes}
-use Rattle.pwl.specs.declared.Written.TheVariants as written
+use Rattle.std.specs.Prelude.{Ok}
 use Rattle.pwl.proofs.Image.{read-image, image-good, image-read, read_fits}
 use Rattle.pwl.proofs.Meaning.{written-image}
 use Rattle.verdict.specs.Verdict.{verdict_fault, verdict_of, RightFile}
@@ -31,15 +27,7 @@ use Rattle.verdict.proofs.Rooms.{run-last}
 
 -- a yes is no refusal
 yes-none : (k : ℕ) (v : checker.Verdict) → given_or k v ≡ Yes → k ≡ 0
-yes-none zero v e = refl
-yes-none (suc k) v e = absurd (suc-ne-zero 0 (ap kind e))
-  where
-    kind : Verdict → ℕ
-    kind (BadEntry i) = 0
-    kind (Differs i) = 0
-    kind NotReduced = 0
-    kind Yes = 0
-    kind (Refused i) = 1
+yes-none k v e = passed-by k (given v) (sym e)
 
 -- what a file gets that is the image of a run: what the checker says of the run
 module _ (r : Run) (w : Fit r) where
@@ -67,7 +55,7 @@ module _ (s : List ℕ) (b : Bytes s) where
       let k : check_fault (task_of (read_run s)) (claim_of (read_run s)) ≡ verdict_fault s = z.1 ∙ sym (yes-none (verdict_fault s) (verdict_on (task_of (read_run s)) (claim_of (read_run s))) e) in
       let y : given_or (check_fault (task_of (read_run s)) (claim_of (read_run s))) (verdict_on (task_of (read_run s)) (claim_of (read_run s))) ≡ Yes
       = ap (λ (j : ℕ). given_or j (verdict_on (task_of (read_run s)) (claim_of (read_run s)))) k ∙ e in
-      subst (λ (v : Verdict). Checked (task_of (read_run s)) (claim_of (read_run s)) v
+      subst (λ (v : CheckAnswer). Checked (task_of (read_run s)) (claim_of (read_run s)) v
       (left_or (check_fault (task_of (read_run s)) (claim_of (read_run s))) (task_of (read_run s)).start (working_for (task_of (read_run s)) (claim_of (read_run s))))) y on-run
 
   right-file : verdict_of s ≡ Yes → RightFile s
@@ -107,7 +95,8 @@ refused-exactly s k = replay.verdict-refused (verdict_on (task_of (read_run s)) 
 -- where it answered that it is done with k entries. `write` wrote it, and the file is the n bytes that it answered.
 pub own-file-yes : (r : Run) → Fit r → {log log' : List ℕ} {k t : ℕ}
     → Reduces r.n r.order r.listed r.extra (task_of r).start log (claim_of r).rows log' (Done k t) → r.log ≡ take (2 * k) log'
-    → {out out' : List ℕ} {n : ℕ} → Writes r out out' (written.Length n) → verdict_of (take n out') ≡ Yes
+    → {out out' : List ℕ} {n : ℕ} → Writes r out out' (Ok n) → verdict_of (take n out') ≡ Yes
+unfolding answer_or
 own-file-yes r w {log} {log'} {k} {t} c e {out} {out'} {n} d =
     let T = task_of r in
     let F = finished r.n r.order r.listed r.extra T.start log k t c in

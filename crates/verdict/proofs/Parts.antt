@@ -1,31 +1,25 @@
 -- What was read is lent on part by part: the run's parts stand one behind the other at the start of the outputs, so that each lent part is one of
 -- them, and the checker is asked about the run in the file. Assumes nothing.
 use mathlib.Core.Path.{◌≡◌, refl, sym, ap, ap₂, ◌∙◌, subst}
-use mathlib.Core.Bool.{false}
 use mathlib.Core.List.{List, [], ◌++◌, append_assoc}
-use Prim.Native.Nat.{ℕ, zero, suc, ◌+◌, ◌*◌, ◌-◌, ◌≤◌}
-use native.Mathlib.Nat.{suc-ne-zero}
+use Prim.Native.Nat.{ℕ, ◌+◌, ◌*◌, ◌-◌, ◌<◌, ◌≤◌}
 use native.Mathlib.Omega.{arith}
-use borrow.Author.Tests.{ltb-false}
 use lib.ListN.{length, take, drop, length-replicate}
 use Rattle.encoding.specs.Set.{part}
 use Rattle.encoding.specs.Refusals.{left_or}
 use Rattle.encoding.specs.Ranks.{by_rank}
-use Rattle.replay.specs.Check.{given_or, verdict_on}
-use Rattle.replay.specs.declared.Verdict.{Verdict}
-use Rattle.replay.specs.declared.Verdict.TheVariants as verdict
-use Rattle.reduction.specs.Checker as checker
+use Rattle.encoding.specs.declared.Refusal.{Refusal}
+use Rattle.encoding.proofs.Faults.{refusing, value-is}
+use Rattle.replay.specs.Check.{CheckAnswer, given, verdict_on}
+use Rattle.std.specs.Prelude.{Option, None, Some, Result, Ok, Err}
 use Rattle.pwl.specs.declared.Front.{Front}
-use Rattle.pwl.specs.declared.Opened.{Opened}
-use Rattle.pwl.specs.declared.Opened.TheVariants.{Whole, Refused}
 use Rattle.pwl.specs.File.{Run, run, run_by, run_of, read_parts, shapes_by, read_run, front_at}
-use Rattle.pwl.specs.Calls.{whole_or, task_of, claim_of, run_lines, Outputs, filled_by, read_fault, Reads}
+use Rattle.pwl.specs.Calls.{task_of, claim_of, run_lines, Outputs, filled_by, read_fault, Reads}
 use Rattle.pwl.proofs.Kit.{length-append, drop_at, take_at}
 use Rattle.pwl.proofs.Round.{length-nums}
 use Rattle.verdict.specs.declared.Ends.{Ends}
-use Rattle.verdict.specs.declared.Taken.{Taken}
 use Rattle.verdict.specs.Verdict.{answer_on, verdict_of, most}
-use Rattle.verdict.specs.Workers.{Room, Ended, run_in, TakenOf, ReadInto, TakenFrom, made}
+use Rattle.verdict.specs.Workers.{Room, Ended, run_in, TakenFrom, made}
 use Rattle.verdict.proofs.Rooms.{none-of-run, read-roomy, room-enough}
 
 -- ---- one part behind another
@@ -114,70 +108,49 @@ run-read : (f : Front) (s : List ℕ) (e : Ends) (o : Outputs) → Ended f e →
 unfolding run_by run_of
 run-read f s e o h = run-back (run_by f s) e o (ends-of-run f s e h)
 
--- ---- what was taken in
-
-told-refused : (k j : ℕ) (h : Front) → Refused k ≡ whole_or j h → (k ≡ j) × (j ≡ 0 → ⊥)
-told-refused k zero h e = absurd (suc-ne-zero 0 (sym (ap kind e)))
-  where
-    kind : Opened → ℕ
-    kind (Whole f) = 1
-    kind (Refused i) = 0
-told-refused k (suc j) h e = (cc, λ z. suc-ne-zero j z)
-
-told-whole : (j : ℕ) (f h : Front) → Whole f ≡ whole_or j h → (j ≡ 0) × (f ≡ h)
-told-whole zero f h e = (refl, cc)
-told-whole (suc j) f h e = absurd (suc-ne-zero 0 (sym (ap kind e)))
-  where
-    kind : Opened → ℕ
-    kind (Whole f) = 0
-    kind (Refused i) = 1
-
-pub taken-read : (s : List ℕ) (o : Outputs) {o' : Outputs} (a : Opened) {t : Taken} → Reads s o o' a → TakenOf a t → ReadInto s o o' t
-taken-read s o (Whole f) c w =
-    let e = told-whole (read_fault s o) f (front_at s) c.answer in
-    record { refusal = w.0 ∙ sym e.0; front = λ _. w.1 ∙ e.1; left = c.left }
-taken-read s o (Refused k) c w =
-    let e = told-refused k (read_fault s o) (front_at s) c.answer in
-    record { refusal = w ∙ e.0; front = λ z. absurd (e.1 (sym e.0 ∙ sym w ∙ z)); left = c.left }
-
 -- ---- the answer
 
-module _ (s : List ℕ) (h : length s ≤ most) {o' : Outputs} {t : Taken} (r : ReadInto s made o' t) where
+module _ (s : List ℕ) (h : length s ≤ most) {o' : Outputs} {a : Result Front Refusal} (r : Reads s made o' a) where
   -- a refusal is the file's
-  pub refused-is : (t.refusal ≡ 0 → ⊥) → verdict.Refused t.refusal ≡ verdict_of s
-  refused-is n =
-      go t.refusal n (verdict_on (task_of (read_run s)) (claim_of (read_run s)))
-      ∙ ap (λ (k : ℕ). answer_on k (read_run s)) (r.refusal ∙ room-enough s h)
-    where
-      go : (k : ℕ) → (k ≡ 0 → ⊥) → (v : checker.Verdict) → verdict.Refused k ≡ given_or k v
-      go zero n v = absurd (n refl)
-      go (suc k) n v = refl
+  pub refused-is : {x : Refusal} → a ≡ Err x → Err x ≡ verdict_of s
+  refused-is e =
+      refusing (read_fault s made) (front_at s) r.answer e (given (verdict_on (task_of (read_run s)) (claim_of (read_run s))))
+      ∙ ap (λ (k : ℕ). answer_on k (read_run s)) (room-enough s h)
 
-  -- what was read had room
-  pub roomy-is : t.refusal ≡ 0 → Room t.front 8171 510 510 128 1021
-  roomy-is z =
-      let w = read-roomy s made (sym r.refusal ∙ z) in
-      subst (λ (f : Front). Room f 8171 510 510 128 1021) (sym (r.front z))
-      (record {
-        for-units = omega (arith, w.for-units, length-replicate {A = ℕ} 8171 0);
-        for-x = omega (arith, w.for-x, length-replicate {A = ℕ} 510 0);
-        for-z = omega (arith, w.for-z, length-replicate {A = ℕ} 510 0);
-        for-p = omega (arith, w.for-p, length-replicate {A = ℕ} 128 0);
-        for-claimed = omega (arith, w.for-claimed, length-replicate {A = ℕ} 1021 0);
-      })
+  module _ {f : Front} (ok : a ≡ Ok f) where
+    told : (read_fault s made ≡ 0) × (front_at s ≡ f)
+    told = value-is (read_fault s made) (front_at s) f (sym r.answer ∙ ok)
 
-  -- and the verdict on the run that lies in the outputs is the one on the file
-  pub verdict-is : t.refusal ≡ 0 → {e : Ends} → Ended t.front e → {v : Verdict}
-      → v ≡ answer_on (by_rank (run_lines (run_in t.front.n t.front.m e o'))) (run_in t.front.n t.front.m e o') → v ≡ verdict_of s
-  verdict-is y {e} d {v} g =
-      let z : read_fault s made ≡ 0 = sym r.refusal ∙ y in
-      let left : o' ≡ filled_by (read_run s) made = r.left ∙ ap (λ (k : ℕ). left_or k made (filled_by (read_run s) made)) z in
-      let back : run_in (front_at s).n (front_at s).m e o' ≡ read_run s =
-      ap (run_in (front_at s).n (front_at s).m e) left ∙ run-read (front_at s) s e made (subst (λ (k : Front). Ended k e) (r.front y) d) in
-      let same : run_in t.front.n t.front.m e o' ≡ read_run s = ap (λ (k : Front). run_in k.n k.m e o') (r.front y) ∙ back in
-      g ∙ ap (λ (q : Run). answer_on (by_rank (run_lines q)) q) same
-      ∙ ap (λ (k : ℕ). answer_on k (read_run s)) (none-of-run s made z ∙ sym z ∙ room-enough s h)
+    -- what was read had room
+    pub roomy-is : Room f 8171 510 510 128 1021
+    roomy-is =
+        let w = read-roomy s made told.0 in
+        subst (λ (f : Front). Room f 8171 510 510 128 1021) told.1
+        (record {
+          for-units = omega (arith, w.for-units, length-replicate {A = ℕ} 8171 0);
+          for-x = omega (arith, w.for-x, length-replicate {A = ℕ} 510 0);
+          for-z = omega (arith, w.for-z, length-replicate {A = ℕ} 510 0);
+          for-p = omega (arith, w.for-p, length-replicate {A = ℕ} 128 0);
+          for-claimed = omega (arith, w.for-claimed, length-replicate {A = ℕ} 1021 0);
+        })
 
--- what is not too large is short enough
-pub short-enough : (s : List ℕ) {o o' : Outputs} {t : Taken} → TakenFrom s o o' t → t.large ≡ false → length s ≤ most
-short-enough s r e = ltb-false most (length s) (sym r.large ∙ e)
+    -- and the verdict on the run that lies in the outputs is the one on the file
+    pub verdict-is : {e : Ends} → Ended f e → {v : CheckAnswer}
+        → v ≡ answer_on (by_rank (run_lines (run_in f.n f.m e o'))) (run_in f.n f.m e o') → v ≡ verdict_of s
+    verdict-is {e} d {v} g =
+        let z : read_fault s made ≡ 0 = told.0 in
+        let left : o' ≡ filled_by (read_run s) made = r.left ∙ ap (λ (k : ℕ). left_or k made (filled_by (read_run s) made)) z in
+        let back : run_in (front_at s).n (front_at s).m e o' ≡ read_run s =
+        ap (run_in (front_at s).n (front_at s).m e) left ∙ run-read (front_at s) s e made (subst (λ (k : Front). Ended k e) (sym told.1) d) in
+        let same : run_in f.n f.m e o' ≡ read_run s = ap (λ (k : Front). run_in k.n k.m e o') (sym told.1) ∙ back in
+        g ∙ ap (λ (q : Run). answer_on (by_rank (run_lines q)) q) same
+        ∙ ap (λ (k : ℕ). answer_on k (read_run s)) (none-of-run s made z ∙ sym z ∙ room-enough s h)
+
+-- ---- what was taken in
+
+module _ (s : List ℕ) (o o' : Outputs) {t : Option (Result Front Refusal)} (w : TakenFrom s o o' t) where
+  pub large_is : t ≡ None → most < length s
+  large_is e = let q : TakenFrom s o o' None = subst (λ t. TakenFrom s o o' t) e w in q
+
+  pub read_is : {a : Result Front Refusal} → t ≡ Some a → (length s ≤ most) × Reads s o o' a
+  read_is {a} e = let q : TakenFrom s o o' (Some a) = subst (λ t. TakenFrom s o o' t) e w in q

@@ -1,6 +1,6 @@
 -- What a run leaves that the table does not refuse: row sets, an order and lists. Words of eight bytes fit, so that a set that no line fits is a
 -- row set. Assumes nothing.
-use mathlib.Core.Path.{◌≡◌, refl, ◌∙◌}
+use mathlib.Core.Path.{◌≡◌, refl}
 use mathlib.Core.List.{List, [], ◌∷◌}
 use Prim.Native.Nat.{ℕ, zero, suc, ◌^◌, ◌<◌}
 use native.Mathlib.Omega.{arith}
@@ -10,7 +10,7 @@ use Rattle.encoding.specs.Refusals.{set_lines}
 use Rattle.encoding.specs.Ranks.{by_rank}
 use Rattle.encoding.proofs.Memory.{valid-of}
 use Rattle.encoding.proofs.WordLaws.{Fit}
-use Rattle.terms.specs.Refused.{list_lines}
+use Rattle.encoding.proofs.Sets.{sound-of}
 use Rattle.terms.proofs.Finished.{none-refused}
 use Rattle.terms.proofs.Answers.{reduce-told}
 use Rattle.replay.specs.Check.{Task, Claim, check_fault, TaskPassed, Passed}
@@ -29,9 +29,8 @@ module _ (T : Task) (L : Claim) (z : check_fault T L ≡ 0) where
       (many : count L.rows ≡ count T.start) where
     task-passed : TaskPassed T
     task-passed =
-        let t = reduce-told T.n T.start refl (λ e. valid-of T.n T.start fx fz fe e) T.order T.listed T.extra
-        (by_rank (list_lines T.n (count T.start) T.order T.listed T.extra)) start_none refl in
-        t.1 (t.0 ∙ (check-none T L z).0)
+        let p = none-refused T.n T.start T.order T.listed T.extra (check-none T L z).0 in
+        reduce-told T.n T.start T.order T.listed T.extra (sound-of T.n T.start refl (λ e. valid-of T.n T.start fx fz fe e) p.0) p.1
 
     pub passed-of : Passed T L.rows
     passed-of = record { of-task = task-passed; of-claim = record { claimed-set = valid-of T.n L.rows gx gz ge (check-none T L z).1; as_many = many } }

@@ -1,16 +1,13 @@
 -- What inner functions ask and leave. Assumes nothing.
-use Rattle.std.specs.Prelude.{◌≡◌, false, List, ℕ, ◌+◌, ◌*◌, ◌≤◌, ltb, length, take, replicate}
+use Rattle.std.specs.Prelude.{◌≡◌, List, ℕ, ◌+◌, ◌*◌, ◌≤◌, ◌<◌, length, take, replicate, Option, None, Some, Result}
 use Rattle.encoding.specs.Limits.{words_of}
 use Rattle.encoding.specs.Set.{part, phase_units}
-use Rattle.encoding.specs.Refusals.{left_or}
-use Rattle.replay.specs.declared.Verdict.{Verdict}
-use Rattle.pwl.specs.File.{Run, run, front_at, read_run}
-use Rattle.pwl.specs.Calls.{Outputs, outputs, filled_by, read_fault}
-use Rattle.pwl.specs.declared.Opened.{Opened}
-use Rattle.pwl.specs.declared.Opened.TheVariants.{Whole, Refused}
+use Rattle.encoding.specs.declared.Refusal.{Refusal}
+use Rattle.replay.specs.Check.{CheckAnswer}
+use Rattle.pwl.specs.File.{Run, run}
+use Rattle.pwl.specs.Calls.{Outputs, outputs, Reads}
 use Rattle.pwl.specs.declared.Front.{Front}
 use Rattle.verdict.specs.declared.Ends.{Ends}
-use Rattle.verdict.specs.declared.Taken.{Taken}
 use Rattle.verdict.specs.Verdict.{verdict_of, most, line_of}
 
 -- so many units, words of X or of Z, phase words and words of a claimed set have room for a run
@@ -41,34 +38,29 @@ run_in n m e o =
 
 -- ---- an input that was taken in
 
--- by what `read` answered
-abbrev pub TakenOf : Opened → Taken → Type 0
-TakenOf (Whole f) t = (t.refusal ≡ 0) × (t.front ≡ f)
-TakenOf (Refused k) t = t.refusal ≡ k
-
--- s was read into outputs that held o and hold o' now, or was refused
-pub record ReadInto (s : List ℕ) (o o' : Outputs) (t : Taken) : Type 0 where
-  pub refusal : t.refusal ≡ read_fault s o
-  pub front : t.refusal ≡ 0 → t.front ≡ front_at s
-  pub left : o' ≡ left_or (read_fault s o) o (filled_by (read_run s) o)
-
--- the same of an input that may be too large
-pub record TakenFrom (s : List ℕ) (o o' : Outputs) (t : Taken) : Type 0 where
-  pub large : t.large ≡ ltb most (length s)
-  pub file : t.large ≡ false → ReadInto s o o' t
+-- s is too large, or was read into outputs that held o and hold o' now, or was refused
+abbrev pub TakenFrom : List ℕ → Outputs → Outputs → Option (Result Front Refusal) → Type 0
+TakenFrom s o o' None = most < length s
+TakenFrom s o o' (Some a) = (length s ≤ most) × Reads s o o' a
 
 -- some input was
-pub record TakenIn (o o' : Outputs) (t : Taken) : Type 0 where
+pub record TakenIn (o o' : Outputs) (t : Option (Result Front Refusal)) : Type 0 where
   pub input : List ℕ
   pub from : TakenFrom input o o' t
+
+-- some input that is not too large
+pub record ReadIn (o o' : Outputs) (a : Result Front Refusal) : Type 0 where
+  pub input : List ℕ
+  pub short : length input ≤ most
+  pub read : Reads input o o' a
 
 -- the outputs as they are made: what a file of at most 16,384 bytes can hold
 abbrev pub made : Outputs
 made = outputs (replicate 8171 0) (replicate 510 0) (replicate 510 0) (replicate 128 0) (replicate 1021 0)
 
--- v is the verdict on whatever was taken in
-abbrev pub Judges : Taken → Outputs → Verdict → Type 0
-Judges t o v = (s : List ℕ) → TakenFrom s made o t → v ≡ verdict_of s
+-- v is the verdict on whatever was read
+abbrev pub Judges : Result Front Refusal → Outputs → CheckAnswer → Type 0
+Judges a o v = (s : List ℕ) → length s ≤ most → Reads s made o a → v ≡ verdict_of s
 
 -- ---- the line
 
@@ -78,6 +70,6 @@ pub record Says (w p : List ℕ) (n : ℕ) : Type 0 where
   pub within : n ≤ length p
 
 -- they are the line on whatever was taken in
-pub record Answers (t : Taken) (o : Outputs) (p : List ℕ) (n : ℕ) : Type 0 where
+pub record Answers (t : Option (Result Front Refusal)) (o : Outputs) (p : List ℕ) (n : ℕ) : Type 0 where
   pub line : (s : List ℕ) → TakenFrom s made o t → take n p ≡ line_of s
   pub within : n ≤ length p

@@ -2,16 +2,18 @@
 
 #![tactic(auto)]
 
-ghost use Rattle.std.specs.Prelude.{◌≡◌, ◌+◌, ◌*◌, ◌^◌, ◌≤◌, ◌<◌, false, ◌++◌, length};
+ghost use Rattle.std.specs.Prelude.{◌≡◌, ◌+◌, ◌*◌, ◌^◌, ◌≤◌, ◌<◌, ◌++◌, length, Ok};
 ghost use Rattle.text.specs.Numbers.{numeral};
 ghost use Rattle.encoding.specs.Ranks.{by_rank};
 ghost use Rattle.pwl.specs.Calls.{run_lines, outputs};
 ghost use Rattle.verdict.specs.Verdict.{answer_on, text_of};
-ghost use Rattle.verdict.specs.Workers.{Room, Ended, run_in, TakenOf, made, TakenFrom, TakenIn, Judges, Says, Answers};
+ghost use Rattle.verdict.specs.Workers.{Room, Ended, run_in, made, TakenFrom, TakenIn, ReadIn, Judges, Says, Answers};
 
-use pwl::{Front, Opened};
+use encoding::Refusal;
+use pwl::Front;
 use replay::Verdict;
 use std::io::Read;
+use terms::Lists;
 
 // The longest input that gets a verdict.
 const MOST: usize = 16384;
@@ -29,7 +31,7 @@ const PHASES: usize = 128;
 const CLAIMED: usize = 1021;
 
 // The places of a run's lists in the units and of its words: where each ends.
-#[derive(Drop)]
+#[derive(Clone, Copy)]
 struct Ends {
     order: usize,
     listed: usize,
@@ -49,7 +51,7 @@ fn check_parts(
     z: &mut [u64],
     p: &mut [u64],
     claimed: &[u64],
-) -> Verdict
+) -> Result<Verdict, Refusal>
     requires order_le_listed { (e.order ≤ e.listed) × (e.listed ≤ e.extra) × (e.extra ≤ e.log) × (e.log ≤ length units.now) }
     requires words_in_bounds { (e.words ≤ length x.old) × (e.words ≤ length z.old) × (e.phases ≤ length p.old) }
     requires phases_in_bounds { e.words + e.words + e.phases ≤ length claimed.now }
@@ -63,15 +65,18 @@ fn check_parts(
     let c = e.extra;
     let t = e.log;
     let k = q + q;
+    let lists = Lists {
+        order: &units[0..a],
+        listed: &units[a..b],
+        extra: &units[b..c],
+    };
     replay::check(
         n,
         m,
         &mut x[0..q],
         &mut z[0..q],
         &mut p[0..v],
-        &units[0..a],
-        &units[a..b],
-        &units[b..c],
+        &lists,
         &units[c..t],
         &claimed[0..q],
         &claimed[q..k],
@@ -107,43 +112,7 @@ fn ends_of(f: Front) -> Ends
     }
 }
 
-// What was taken in: whether the input is too large, else the number of a refusal, else 0 and the front of the file that was read.
-#[derive(Drop)]
-struct Taken {
-    large: bool,
-    refusal: u8,
-    front: Front,
-}
-
-fn no_front() -> Front {
-    Front {
-        n: 0,
-        m: 0,
-        order: 0,
-        listed: 0,
-        extra: 0,
-        entries: 0,
-    }
-}
-
-fn by_answer(o: Opened) -> Taken
-    ensures { (result.large ≡ false) × TakenOf o result }
-{
-    match o {
-        Opened::Refused(k) => Taken {
-            large: false,
-            refusal: k,
-            front: no_front(),
-        },
-        Opened::Whole(f) => Taken {
-            large: false,
-            refusal: 0,
-            front: f,
-        },
-    }
-}
-
-// An input into the outputs, if it is not too large.
+// An input into the outputs, if it is not too large: the front of the file that was read, or its refusal.
 fn take(
     s: &[u8],
     units: &mut [u16],
@@ -151,18 +120,13 @@ fn take(
     z: &mut [u64],
     p: &mut [u64],
     claimed: &mut [u64],
-) -> Taken
+) -> Option<Result<Front, Refusal>>
     ensures { TakenFrom s.now (outputs units.old x.old z.old p.old claimed.old) (outputs units.new x.new z.new p.new claimed.new) result }
 {
     if MOST < s.len() {
-        return Taken {
-            large: true,
-            refusal: 0,
-            front: no_front(),
-        };
+        return None;
     }
-    let o = pwl::read(s, units, x, z, p, claimed);
-    by_answer(o)
+    Some(pwl::read(s, units, x, z, p, claimed))
 }
 
 // One read of standard input into a part; how many bytes it gave, 0 at its end.
@@ -207,7 +171,7 @@ fn take_in(
     z: &mut [u64; WORDS],
     p: &mut [u64; PHASES],
     claimed: &mut [u64; CLAIMED],
-) -> Taken
+) -> Option<Result<Front, Refusal>>
     ensures { TakenIn (outputs units.old x.old z.old p.old claimed.old) (outputs units.new x.new z.new p.new claimed.new) result }
 {
     let mut buf = [0u8; MOST + 1];
@@ -215,23 +179,19 @@ fn take_in(
     take(&buf[0..got], units, x, z, p, claimed)
 }
 
-// The refusal's number of a file, or else the verdict on the run that was read from it.
+// The refusal of a file, or else the verdict on the run that was read from it.
 fn judge(
-    t: Taken,
+    file: Result<Front, Refusal>,
     units: &[u16; UNITS],
     x: &mut [u64; WORDS],
     z: &mut [u64; WORDS],
     p: &mut [u64; PHASES],
     claimed: &[u64; CLAIMED],
-) -> Verdict
-    requires { (t.large ≡ false) × TakenIn made (outputs units.now x.old z.old p.old claimed.now) t }
-    ensures { Judges t (outputs units.now x.old z.old p.old claimed.now) result }
+) -> Result<Verdict, Refusal>
+    requires { ReadIn made (outputs units.now x.old z.old p.old claimed.now) file }
+    ensures { Judges file (outputs units.now x.old z.old p.old claimed.now) result }
 {
-    let k = t.refusal;
-    if k != 0 {
-        return Verdict::Refused(k);
-    }
-    let f = t.front;
+    let f = file?;
     let e = ends_of(f);
     check_parts(f.n, f.m, e, units, x, z, p, claimed)
 }
@@ -241,7 +201,7 @@ fn put_plain(out: &mut [u8], s: &[u8]) -> usize
     requires { length s.now ≤ length out.old }
     ensures { Says s.now out.new result }
 {
-    text::put_text(out, 0, s).at
+    text::put_text(out, 0, s).unwrap()
 }
 
 // A text with a number in it.
@@ -249,43 +209,55 @@ fn put_numbered(out: &mut [u8], head: &[u8], k: u64, tail: &[u8]) -> usize
     requires { length head.now + (21 + length tail.now) ≤ length out.old }
     ensures { Says (head.now ++ (numeral 10 k ++ tail.now)) out.new result }
 {
-    let a = text::put_text(out, 0, head);
-    let b = text::put_decimal(out, a.at, k);
-    text::put_text(out, b.at, tail).at
+    let at = text::put_text(out, 0, head).unwrap();
+    let at = text::put_decimal(out, at, k).unwrap();
+    text::put_text(out, at, tail).unwrap()
 }
 
 // The line of a verdict.
 fn put_verdict(out: &mut [u8], v: Verdict) -> usize
     requires { 64 ≤ length out.old }
-    ensures { Says (text_of v) out.new result }
+    ensures { Says (text_of (Ok v)) out.new result }
 {
     match v {
         Verdict::BadEntry(k) => put_numbered(out, b"bad entry ", k as u64, b"\n"),
         Verdict::Differs(k) => put_numbered(out, b"row ", k as u64, b" differs\n"),
         Verdict::NotReduced => put_plain(out, b"not reduced\n"),
         Verdict::Yes => put_plain(out, b"yes\n"),
-        Verdict::Refused(k) => put_numbered(out, b"", k as u64, b"\n"),
+    }
+}
+
+// The line of a verdict, or of a refusal: its number.
+fn put_answer(out: &mut [u8], answer: Result<Verdict, Refusal>) -> usize
+    requires { 64 ≤ length out.old }
+    ensures { Says (text_of answer) out.new result }
+{
+    match answer {
+        Ok(v) => put_verdict(out, v),
+        Err(r) => put_numbered(out, b"", r.0 as u64, b"\n"),
     }
 }
 
 // The line on the input that was taken in.
 fn put_line(
     out: &mut [u8],
-    t: Taken,
+    taken: Option<Result<Front, Refusal>>,
     units: &[u16; UNITS],
     x: &mut [u64; WORDS],
     z: &mut [u64; WORDS],
     p: &mut [u64; PHASES],
     claimed: &[u64; CLAIMED],
 ) -> usize
-    requires { (64 ≤ length out.old) × TakenIn made (outputs units.now x.old z.old p.old claimed.now) t }
-    ensures { Answers t (outputs units.now x.old z.old p.old claimed.now) out.new result }
+    requires { (64 ≤ length out.old) × TakenIn made (outputs units.now x.old z.old p.old claimed.now) taken }
+    ensures { Answers taken (outputs units.now x.old z.old p.old claimed.now) out.new result }
 {
-    if t.large {
-        return put_plain(out, b"too large\n");
+    match taken {
+        None => put_plain(out, b"too large\n"),
+        Some(file) => {
+            let answer = judge(file, units, x, z, p, claimed);
+            put_answer(out, answer)
+        }
     }
-    let v = judge(t, units, x, z, p, claimed);
-    put_verdict(out, v)
 }
 
 fn main(rt: HostRuntime) {
@@ -295,7 +267,7 @@ fn main(rt: HostRuntime) {
     let mut p = [0u64; PHASES];
     let mut claimed = [0u64; CLAIMED];
     let mut line = [0u8; LINE];
-    let t = take_in(&rt, &mut units, &mut x, &mut z, &mut p, &mut claimed);
-    let n = put_line(&mut line, t, &units, &mut x, &mut z, &mut p, &claimed);
+    let taken = take_in(&rt, &mut units, &mut x, &mut z, &mut p, &mut claimed);
+    let n = put_line(&mut line, taken, &units, &mut x, &mut z, &mut p, &claimed);
     let _ = rt.stdout().write_all(&line[0..n]);
 }

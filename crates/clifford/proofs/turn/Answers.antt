@@ -1,23 +1,10 @@
 -- `clifford::turn` meets its contract: the two bits of the qubit are turned, and the sign, which is bit 2r + 1 of the phase words. The words that the leaf
 -- left are of 64 bits, as all lent words are. Assumes nothing.
-use native.Mathlib.Omega.{arith}
 use mathlib.Core.Path.{ap, ◌∙◌}
 use Prim.Native.Nat.{ℕ}
 use Rattle.one_qubit.specs.Leaves.{with_turned}
-use Rattle.clifford.proofs.Rows.{in-limits, turned-row}
+use Rattle.clifford.proofs.Rows.{turned-row}
 use Rattle.clifford.proofs.turn.Goals as goal
-
-pub place-k-requires : goal.place-k-requires
-place-k-requires c =
-    in-limits c.args.n c.args.r.0 c.args.q.0 c.requires.sound c.requires.row_in c.requires.qubit-in
-
-pub overflow_mul-r : goal.overflow_mul-r
-overflow_mul-r c =
-    omega (arith, c.requires.row_in, c.requires.sound.few-rows)
-
-pub overflow_add-r : goal.overflow_add-r
-overflow_add-r c =
-    omega (arith, c.requires.row_in, c.requires.sound.few-rows)
 
 pub returns : goal.returns
 returns c =

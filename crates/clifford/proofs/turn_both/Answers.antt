@@ -1,11 +1,7 @@
 -- `clifford::turn_both` meets its contract: after the target the memory is a row set still, and two changes of one row are one. Assumes nothing.
 use mathlib.Core.Path.{refl}
-use Rattle.clifford.proofs.Rows.{target-ready, control-ready, both-turned}
+use Rattle.clifford.proofs.Rows.{control-ready, both-turned}
 use Rattle.clifford.proofs.turn_both.Goals as goal
-
-pub turn-requires : goal.turn-requires
-turn-requires c =
-    target-ready c.args.n c.args.r.0 c.args.control c.args.target c.requires
 
 pub turn-requires-2 : goal.turn-requires-2
 turn-requires-2 c =

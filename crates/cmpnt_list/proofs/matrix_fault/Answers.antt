@@ -1,16 +1,15 @@
--- `cmpnt_list::matrix_fault` meets its contract. Assumes nothing.
+-- The two parts stand by rank (`matrix-parts`); where neither is refused, the set is sound and the matrix has its size (`matrix-asked`).
+use Rattle.encoding.specs.Set.{set_of}
 use Rattle.encoding.specs.Refusals.{set_lines}
-use Rattle.encoding.specs.Set.{mem_of, count}
 use Rattle.encoding.proofs.Ranks.{both-parts}
 use Rattle.cmpnt_list.specs.Calls.{matrix_lines}
-use Rattle.cmpnt_list.proofs.Tests.{matrix-asked, matrix-parts}
+use Rattle.cmpnt_list.proofs.Tests.{matrix-parts, matrix-asked}
 use Rattle.cmpnt_list.proofs.matrix_fault.Goals as goal
 
 pub returns : goal.returns
 returns c =
-    let a = c.args in
-    let M = mem_of a.m a.x.now a.z.now a.phases.now in
+    let s = c.args.set.now in
     record {
-      value = both-parts (set_lines a.n M) (matrix_lines (count M) a.size) (matrix-parts a.n M (count M) a.size) c.set_fault.ensures.value c.square_fault.ensures c.smaller.ensures;
-      none = matrix-asked a.n M a.size c.set_fault.ensures.value c.square_fault.ensures c.smaller.ensures c.set_fault.ensures.valid;
+      value = both-parts (set_lines s.n (set_of s)) (matrix_lines s.m c.args.size) (matrix-parts s.n (set_of s) s.m c.args.size) c.set_fault.ensures.value c.square_fault.ensures c.smaller.ensures;
+      none = matrix-asked s.n (set_of s) c.args.size c.set_fault.ensures.value c.square_fault.ensures c.smaller.ensures c.set_fault.ensures.valid;
     }

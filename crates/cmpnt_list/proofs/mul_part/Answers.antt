@@ -5,5 +5,6 @@ use Rattle.cmpnt_list.proofs.mul_part.Goals as goal
 
 pub returns : goal.returns
 returns c =
+    let s = c.args.s in
     let r = c.mul_op_op in
-    part-product c.args.a c.args.e c.requires.a_le_e.0 c.requires.a_le_e.1 c.requires.same_length r.auto.ox r.auto.oz r.ensures
+    part-product s.start s.end c.requires.a_le_e.0 c.requires.a_le_e.1 c.requires.same_length r.auto.ox r.auto.oz r.ensures

@@ -6,7 +6,6 @@ use Rattle.encoding.proofs.Scan.{any-more, any-hit}
 use native.Mathlib.Omega.{arith}
 use mathlib.Core.Path.{◌≡◌, refl, sym, ap, ◌∙◌}
 use Prim.Native.Nat.{ℕ}
-use Rattle.std.proofs.Common.{rules}
 use Rattle.encoding.proofs.bad_bits.Goals as goal
 
 pub returns-then-k-eq0 : goal.returns-then-k-eq0
@@ -17,7 +16,7 @@ returns-then-k-eq0 c =
 
 pub loop-r-init : goal.loop-r-init
 unfolding some_below
-loop-r-init c = (search rules, refl)
+loop-r-init c = refl
 
 pub returns-then-above : goal.returns-then-above
 unfolding bad_bits
@@ -29,16 +28,14 @@ returns-then-above c =
 
 pub loop-r-preserved : goal.loop-r-preserved
 loop-r-preserved c =
-    let a = c.args in (
-      omega arith,
-      any-more (high a.n a.w a.x.now a.z.now) c.loop-r.r c.loop-r.invariant.1
-          (sym (row_last a.n a.m a.w a.x.now a.z.now c.requires.0 c.requires.1 c.requires.2 c.loop-r.r _ c.if-k-eq0.false c.loop-r-test.true (omega arith))
-          ∙ sym c.above.ensures ∙ c.if-above.false),
-    )
+    let a = c.args in
+    any-more (high a.n a.w a.x.now a.z.now) c.loop-r.r c.loop-r.invariant
+    (sym (row_last a.n a.m a.w a.x.now a.z.now c.requires.0 c.requires.1 c.requires.2 c.loop-r.r _ c.if-k-eq0.false c.loop-r-test.true (omega arith))
+    ∙ sym c.above.ensures ∙ c.if-above.false)
 
 pub returns : goal.returns
 unfolding bad_bits
 returns c =
     let a = c.args in
     let e : c.loop-r.r ≡ a.m = omega arith in
-    sym (ap (λ (k : ℕ). some_below k (high a.n a.w a.x.now a.z.now)) (sym e) ∙ c.loop-r.invariant.1)
+    sym (ap (λ (k : ℕ). some_below k (high a.n a.w a.x.now a.z.now)) (sym e) ∙ c.loop-r.invariant)

@@ -3,11 +3,7 @@ use mathlib.Core.Bool.{false}
 use Rattle.encoding.specs.Refusals.{some_below}
 use Rattle.encoding.proofs.Spare.{high}
 use mathlib.Core.Path.{◌≡◌}
-use Prim.Native.Nat.{◌-◌, ◌≤◌}
 use Rattle.encoding.proofs.bad_bits.Given as goal
 
 abbrev pub invariant-loop-r : goal.invariant-loop-r
-invariant-loop-r l = (l.r ≤ l.m) × (some_below l.r (high l.n l.w l.x l.z) ≡ false)
-
-abbrev pub decreases-loop-r : goal.decreases-loop-r
-decreases-loop-r l = l.m - l.r
+invariant-loop-r l = some_below l.r (high l.n l.w l.x l.z) ≡ false

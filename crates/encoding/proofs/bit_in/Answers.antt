@@ -1,5 +1,5 @@
-use mathlib.Core.Path.{sym}
-use Prim.Native.Nat.{◌/◌, ◌%◌}
+use borrow.Author.Tests.{le-ltb}
+use Rattle.std.proofs.Common.{sym, ◌∙◌, ◌/◌, ◌%◌}
 use Rattle.encoding.specs.Words.{bit_at}
 use Rattle.encoding.proofs.Qubits.{no-bit}
 use Rattle.encoding.proofs.bit_in.Goals as goal
@@ -9,4 +9,4 @@ unfolding bit_at
 returns-then-j-x c = c.bit_of.ensures
 
 pub returns-else-j-x : goal.returns-else-j-x
-returns-else-j-x c = let a = c.args in sym (no-bit a.x.now (a.q / 64) (a.q % 64) c.if-j-x.false)
+returns-else-j-x c = let a = c.args in le-ltb _ _ c.if-j-x.false ∙ sym (no-bit a.x.now (a.q / 64) (a.q % 64) c.if-j-x.false)

@@ -5,6 +5,7 @@ use Rattle.pauli.specs.Pauli.{of_bits}
 use mathlib.Core.Path.{ap₂}
 use Rattle.encoding.specs.Words.{bit_at}
 use Rattle.encoding.proofs.Qubits.{qubit-at, past-x, past-z}
+use Rattle.encoding.proofs.get_qubit.Goals.{else-j-x-via-then-j-x+else-j-z, else-j-x-via-else-j-x}
 use Rattle.encoding.proofs.get_qubit.Goals as goal
 
 pub returns-then-j-z : goal.returns-then-j-z
@@ -14,12 +15,10 @@ returns-then-j-z c =
     c.pauli_of.ensures ∙ ap₂ of_bits c.bit_of.ensures c.bit_of-then-j-z.ensures
     ∙ sym (qubit-at a.x.now a.z.now a.qubit.0 c.if-j-x.true c.if-j-z.true)
 
-pub returns-else-j-z : goal.returns-else-j-z
-returns-else-j-z c =
+pub returns : goal.returns
+returns c =
     let a = c.args in
-    sym (past-z a.x.now a.z.now a.qubit.0 c.if-j-z.false)
-
-pub returns-else-j-x : goal.returns-else-j-x
-returns-else-j-x c =
-    let a = c.args in
-    sym (past-x a.x.now a.z.now a.qubit.0 c.if-j-x.false)
+    elim c.else-j-x.branch [
+      | else-j-x-via-then-j-x+else-j-z w ↦ sym (past-z a.x.now a.z.now a.qubit.0 w.if-j-z.false)
+      | else-j-x-via-else-j-x w ↦ sym (past-x a.x.now a.z.now a.qubit.0 w.if-j-x.false)
+    ]

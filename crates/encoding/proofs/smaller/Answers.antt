@@ -1,17 +1,15 @@
-use Rattle.encoding.specs.Refusals.{least}
-use Rattle.encoding.proofs.Faults.{least-left, least-less, least_more}
-use Rattle.std.proofs.Common.{rules}
+use Rattle.std.proofs.Common.{refl}
+use borrow.Author.Tests.{lt-ltb, le-ltb}
 use Rattle.encoding.proofs.smaller.Goals as goal
 
-pub returns-then-a-eq0 : goal.returns-then-a-eq0
-unfolding least
-returns-then-a-eq0 c = search rules
+pub returns-in-Ok-default : goal.returns-in-Ok-default
+returns-in-Ok-default c = simp (c.in-Ok-default.is-0) refl
 
-pub returns-then-b-eq0 : goal.returns-then-b-eq0
-returns-then-b-eq0 c = least-left c.args.a c.args.b c.if-a-eq0.false c.if-b-eq0.true
+pub returns-in_default-Ok : goal.returns-in_default-Ok
+returns-in_default-Ok c = simp (c.in_default-Ok.is-0, c.in_default-Ok.is-1) refl
 
-pub returns-then-a-b : goal.returns-then-a-b
-returns-then-a-b c = least-less c.args.a c.args.b c.if-a-eq0.false c.if-b-eq0.false c.if-a-b.true
+pub returns-then-l-r : goal.returns-then-l-r
+returns-then-l-r c = simp (c.in-Err-Err.is-0, c.in-Err-Err.is-1, lt-ltb _ _ c.if-l-r.true) refl
 
-pub returns-else-a-b : goal.returns-else-a-b
-returns-else-a-b c = least_more c.args.a c.args.b c.if-a-eq0.false c.if-b-eq0.false c.if-a-b.false
+pub returns-else-l-r : goal.returns-else-l-r
+returns-else-l-r c = simp (c.in-Err-Err.is-0, c.in-Err-Err.is-1, le-ltb _ _ c.if-l-r.false) refl

@@ -8,18 +8,6 @@ use Rattle.late.proofs.columns.Goals as goal
 pub scratched-requires : goal.scratched-requires
 scratched-requires c = told-yes c.ready.ensures c.if-ready.true
 
-pub shape_of-x-then-ready : goal.shape_of-x-then-ready
-shape_of-x-then-ready c = c.scratched.ensures.keeps.x_len
-
-pub shape_of-z-then-ready : goal.shape_of-z-then-ready
-shape_of-z-then-ready c = c.scratched.ensures.keeps.z-len
-
-pub shape_of-p-then-ready : goal.shape_of-p-then-ready
-shape_of-p-then-ready c = c.scratched.ensures.keeps.e-len
-
-pub shape_of-log-then-ready : goal.shape_of-log-then-ready
-shape_of-log-then-ready c = c.scratched.ensures.log-len
-
 pub returns-then-ready : goal.returns-then-ready
 returns-then-ready c = reduced (told-yes c.ready.ensures c.if-ready.true) c.scratched.ensures
 

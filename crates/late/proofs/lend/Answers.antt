@@ -26,17 +26,5 @@ reduce-requires c =
       below = (h.order-in, h.listed_in, h.extra-in);
     }
 
-pub shape_of-x : goal.shape_of-x
-shape_of-x c = c.reduce.ensures.keeps.x_len
-
-pub shape_of-z : goal.shape_of-z
-shape_of-z c = c.reduce.ensures.keeps.z-len
-
-pub shape_of-p : goal.shape_of-p
-shape_of-p c = c.reduce.ensures.keeps.e-len
-
-pub shape_of-log : goal.shape_of-log
-shape_of-log c = c.reduce.ensures.log-len
-
 pub returns : goal.returns
 returns c = c.reduce.ensures

@@ -9,17 +9,5 @@ use Rattle.late.proofs.scratched.Goals as goal
 pub lend-requires : goal.lend-requires
 lend-requires c = (c.requires, record { o-long = length-replicate {A = ℕ} max_rows 0; x-long = length-replicate {A = ℕ} 4096 0; z-long = length-replicate {A = ℕ} 4096 0; e-long = length-replicate {A = ℕ} 2 0; o-blank = zeros max_rows; x-blank = zeros 4096; z-blank = zeros 4096; e-blank = zeros 2 })
 
-pub shape_of-x : goal.shape_of-x
-shape_of-x c = c.lend.ensures.keeps.x_len
-
-pub shape_of-z : goal.shape_of-z
-shape_of-z c = c.lend.ensures.keeps.z-len
-
-pub shape_of-p : goal.shape_of-p
-shape_of-p c = c.lend.ensures.keeps.e-len
-
-pub shape_of-log : goal.shape_of-log
-shape_of-log c = c.lend.ensures.log-len
-
 pub returns : goal.returns
 returns c = c.lend.ensures

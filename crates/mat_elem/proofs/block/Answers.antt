@@ -1,4 +1,4 @@
-use Rattle.std.proofs.Common.{ℕ, ap₂, arith}
+use Rattle.std.proofs.Common.{◌≡◌, ℕ, length, ap₂, ◌∙◌, arith}
 use Rattle.mat_elem.specs.declared.Place.{Place}
 use Rattle.mat_elem.proofs.Places.{run_none, run_more, run-stop, run_end}
 use Rattle.mat_elem.proofs.block.Goals as goal
@@ -23,4 +23,5 @@ loop-last-preserved c =
 
 pub returns : goal.returns
 returns c =
-    ap₂ place c.start-first.ensures (run_end c.args.x.now c.args.t c.requires c.loop-last.invariant (omega arith))
+    let e : length c.args.x.now ≡ c.loop-last.last = omega arith in
+    ap₂ place c.start-first.ensures (e ∙ run_end c.args.x.now c.args.t c.requires c.loop-last.invariant (omega arith))

@@ -8,22 +8,23 @@ use lib.Bits.{bit_xor}
 use lib.Ieee.{Float, nan, binary64, add, fits}
 use lib.Ieee.Scale.{finite}
 use Rattle.encoding.specs.Refusals.{some, some_below}
+use Rattle.encoding.specs.declared.Refusal.{Refusal}
 use Rattle.encoding.specs.Ranks.{line, by_rank}
 use Rattle.encoding.proofs.Faults.{or_else, or-none}
 use Rattle.encoding.proofs.Ranks.{none-holds, Given}
 use Rattle.encoding.proofs.Scan.{none_of, some-none, any-hit, any_same}
 use Rattle.mat_elem.specs.Terms.{term_lines, in_block, has_a_block}
-use Rattle.mat_elem.specs.Sums.{exponent_of, step_if, sum_over}
+use Rattle.mat_elem.specs.Sums.{Element, Sum, NoBlock, Refused, exponent_of, step_if, sum_over}
 use Rattle.mat_elem.proofs.OneOf.{Differ, refused-when as any-refused, none-when as any_none}
 use Rattle.mat_elem.proofs.Faults.{sound}
-use Rattle.mat_elem.specs.float.Sums.{plus, term_at, sum_to, both_finite, wild, overflows, float_lines, element, element_of}
+use Rattle.mat_elem.specs.float.Sums.{complex, plus, term_at, sum_to, both_finite, wild, overflows, float_lines, element, element_of}
 use Rattle.mat_elem.specs.float.Product.{not_minus_zero, product_to, product_of, MatElem}
-use Rattle.mat_elem.specs.declared.float.Complex.{Complex}
-use Rattle.mat_elem.specs.declared.float.Element.{Element}
-use Rattle.mat_elem.specs.declared.float.Element.TheVariants.{Sum, NoBlock, Refused}
+use Rattle.checked.specs.declared.Complex.{Complex}
 use Rattle.mat_elem.proofs.float.Times.{Plain, turned_plain}
 use Rattle.mat_elem.proofs.float.Partial.{BothLive, add-past, same-sums}
-use Rattle.mat_elem.proofs.float.Block.{bad, number_is}
+use Rattle.mat_elem.specs.Numbers.{floats}
+use Rattle.mat_elem.proofs.Span.{bad}
+use Rattle.mat_elem.proofs.float.Block.{number_is}
 
 some-found : (f : ℕ → Bool) (m : ℕ) → some_below m f ≡ true → (k : ℕ) × (k < m) × (f k ≡ true)
 unfolding some_below
@@ -56,20 +57,20 @@ either true false false false f g = refl
 either false b true d f g = absurd (true≢false (f refl))
 either false b false d f g = refl
 
-goes_on : (at : Bool) (s d : Complex) → T (finite d.re) → T (finite d.im)
-    → (bad s || bad (step_if at (λ (u : Complex). plus u d) s)) ≡ bad (step_if at (λ (u : Complex). plus u d) s)
+goes_on : (at : Bool) (s d : Complex Float) → T (finite d.re) → T (finite d.im)
+    → (bad floats s || bad floats (step_if at (λ (u : Complex Float). plus u d) s)) ≡ bad floats (step_if at (λ (u : Complex Float). plus u d) s)
 goes_on true s d p q =
     either (finite s.re) (finite s.im) (finite (add binary64 s.re d.re)) (finite (add binary64 s.im d.im)) (past s.re d.re p) (past s.im d.im q)
-goes_on false s d p q = or_self (bad s)
+goes_on false s d p q = or_self (bad floats s)
 
 module _ (xs zs : List ℕ) (re im : List Float) (t ket : ℕ) where
-  last-bad : (m : ℕ) → ((k : ℕ) → k < m → Plain (get_or re k nan) × Plain (get_or im k nan)) → some_below (suc m) (λ k. bad (sum_to xs zs re im t ket k)) ≡ bad (sum_to xs zs re im t ket m)
+  last-bad : (m : ℕ) → ((k : ℕ) → k < m → Plain (get_or re k nan) × Plain (get_or im k nan)) → some_below (suc m) (λ k. bad floats (sum_to xs zs re im t ket k)) ≡ bad floats (sum_to xs zs re im t ket m)
   unfolding some_below sum_over
   last-bad zero h = refl
   last-bad (suc m) h =
       let w = h m (omega arith) in
       let p = turned_plain (get_or re m nan) (get_or im m nan) w.0 w.1 (exponent_of (get_or xs m 0) (get_or zs m 0) ket) in
-      ap (λ (b : Bool). b || bad (sum_to xs zs re im t ket (suc m))) (last-bad m (λ k l. h k (omega arith)))
+      ap (λ (b : Bool). b || bad floats (sum_to xs zs re im t ket (suc m))) (last-bad m (λ k l. h k (omega arith)))
       ∙ goes_on (in_block xs t m) (sum_to xs zs re im t ket m) (term_at xs zs re im ket m) p.0.is_finite p.1.is_finite
 
 module _ (n : ℕ) (xs zs : List ℕ) (re im : List Float) (bra ket : ℕ) (fr : AllF64 re) (fi : AllF64 im) where
@@ -98,15 +99,15 @@ module _ (n : ℕ) (xs zs : List ℕ) (re im : List Float) (bra ket : ℕ) (fr :
   -- the answer has the bits of the one by products
   pub by_product : (z : ℕ → Bool) → element_of n xs zs re im bra ket ≡ product_of z n xs zs re im bra ket
   unfolding element_of product_of overflows
-  by_product z = rw (number_is n xs zs re im bra ket (some_below (suc (length xs)) (λ k. bad (sum_to xs zs re im t ket k))), number_is n xs zs re im bra ket (some_below (suc (length xs)) (λ k. bad (product_to z xs zs re im t ket k)))) (go early refl)
+  by_product z = rw (number_is n xs zs re im bra ket (some_below (suc (length xs)) (λ k. bad floats (sum_to xs zs re im t ket k))), number_is n xs zs re im bra ket (some_below (suc (length xs)) (λ k. bad floats (product_to z xs zs re im t ket k)))) (go early refl)
     where
       go : (j : ℕ) → early ≡ j
-          → element (or_else j (by_rank (line 12 (some_below (suc (length xs)) (λ k. bad (sum_to xs zs re im t ket k))) ∷ []))) (has_a_block xs t) (sum_to xs zs re im t ket (length xs))
-          ≡ element (or_else j (by_rank (line 12 (some_below (suc (length xs)) (λ k. bad (product_to z xs zs re im t ket k))) ∷ []))) (has_a_block xs t) (product_to z xs zs re im t ket (length xs))
+          → element (or_else j (by_rank (line 12 (some_below (suc (length xs)) (λ k. bad floats (sum_to xs zs re im t ket k))) ∷ []))) (has_a_block xs t) (sum_to xs zs re im t ket (length xs))
+          ≡ element (or_else j (by_rank (line 12 (some_below (suc (length xs)) (λ k. bad floats (product_to z xs zs re im t ket k))) ∷ []))) (has_a_block xs t) (product_to z xs zs re im t ket (length xs))
       go (suc j) e = refl
       go zero e =
-          ap₂ (λ (b : Bool) (s : Complex). element (by_rank (line 12 b ∷ [])) (has_a_block xs t) s)
-          (any_same (λ k. bad (sum_to xs zs re im t ket k)) (λ k. bad (product_to z xs zs re im t ket k)) (suc (length xs)) (λ k l. ap bad (sym (sums z e k (le_of_suc-le-suc l)).0)))
+          ap₂ (λ (b : Bool) (s : Complex Float). element (by_rank (line 12 b ∷ [])) (has_a_block xs t) s)
+          (any_same (λ k. bad floats (sum_to xs zs re im t ket k)) (λ k. bad floats (product_to z xs zs re im t ket k)) (suc (length xs)) (λ k l. ap (bad floats) (sym (sums z e k (le_of_suc-le-suc l)).0)))
           (sym (sums z e (length xs) (omega arith)).0)
 
   not-minus : (a b : Float) → element_of n xs zs re im bra ket ≡ Sum a b → T (not_minus_zero a) × T (not_minus_zero b)
@@ -120,15 +121,14 @@ module _ (n : ℕ) (xs zs : List ℕ) (re im : List Float) (bra ket : ℕ) (fr :
       go zero zero false p e = let no : ◌≡◌ {A = ℕ} 0 1 = cc in absurd (omega arith)
       go zero zero true p e =
           let l = never-minus-zero p (length xs) (omega arith) in
-          let u : (sum_to xs zs re im t ket (length xs)).re ≡ a = cc in
-          let v : (sum_to xs zs re im t ket (length xs)).im ≡ b = cc in
-          (subst (λ (x : Float). T (not_minus_zero x)) u l.0, subst (λ (x : Float). T (not_minus_zero x)) v l.1)
+          let q : sum_to xs zs re im t ket (length xs) ≡ complex a b = cc in
+          subst (λ (c : Complex Float). T (not_minus_zero c.re) × T (not_minus_zero c.im)) q l
 
-  pub mat-elem : {r : Element} → r ≡ element_of n xs zs re im bra ket → MatElem n xs zs re im bra ket r
+  pub mat-elem : {r : (Element Float)} → r ≡ element_of n xs zs re im bra ket → MatElem n xs zs re im bra ket r
   mat-elem e = record { answer = e; by-products = λ z. e ∙ by_product z; never-minus-zero = λ a b q. not-minus a b (sym e ∙ q) }
 
   -- a partial sum is not finite exactly when the last is not
-  pub last_sum : early ≡ 0 → overflows xs zs re im t ket ≡ bad (sum_to xs zs re im t ket (length xs))
+  pub last_sum : early ≡ 0 → overflows xs zs re im t ket ≡ bad floats (sum_to xs zs re im t ket (length xs))
   unfolding overflows
   last_sum e = last-bad xs zs re im t ket (length xs) (plains e)
 
@@ -136,7 +136,7 @@ module _ (n : ℕ) (xs zs : List ℕ) (re im : List Float) (bra ket : ℕ) (fr :
 
 differ : {a b : Float} → Differ Refused NoBlock (Sum a b)
 differ = record {
-  numbers = λ j k e. cc;
+  numbers = λ j k e. let q : ◌≡◌ {A = Refusal} (record { 0 = j }) (record { 0 = k }) = cc in ap (λ (r : Refusal). r.0) q;
   refused_none = λ j e. let no : ◌≡◌ {A = ℕ} 0 1 = cc in omega arith;
   refused-sum = λ j e. let no : ◌≡◌ {A = ℕ} 0 1 = cc in omega arith;
   none-sum = λ e. let no : ◌≡◌ {A = ℕ} 0 1 = cc in omega arith;
@@ -159,6 +159,6 @@ module _ (n : ℕ) (xs zs : List ℕ) (re im : List Float) (bra ket : ℕ) where
   pub overflow-when : (overflows xs zs re im (bit_xor bra ket) ket ≡ true) ↔ ((m : ℕ) × (m ≤ length xs) × (both_finite (sum_to xs zs re im (bit_xor bra ket) ket m) ≡ false))
   unfolding overflows
   overflow-when = (
-    λ e. let r = some-found (λ k. bad (sum_to xs zs re im (bit_xor bra ket) ket k)) (suc (length xs)) e in (r.0, le_of_suc-le-suc r.1, not-true (both_finite (sum_to xs zs re im (bit_xor bra ket) ket r.0)) r.2),
-    λ h. any-hit (λ k. bad (sum_to xs zs re im (bit_xor bra ket) ket k)) (suc (length xs)) h.0 (suc-le-suc h.1) (ap not h.2),
+    λ e. let r = some-found (λ k. bad floats (sum_to xs zs re im (bit_xor bra ket) ket k)) (suc (length xs)) e in (r.0, le_of_suc-le-suc r.1, not-true (both_finite (sum_to xs zs re im (bit_xor bra ket) ket r.0)) r.2),
+    λ h. any-hit (λ k. bad floats (sum_to xs zs re im (bit_xor bra ket) ket k)) (suc (length xs)) h.0 (suc-le-suc h.1) (ap not h.2),
   )

@@ -8,7 +8,7 @@ use Rattle.mat_elem.specs.Terms.{in_block}
 use Rattle.mat_elem.specs.Sums.{exponent_of, step_if, sum_over}
 use Rattle.mat_elem.specs.float.Sums.{complex, plus, term_at, plus_zero, sum_to}
 use Rattle.mat_elem.specs.float.Product.{not_minus_zero, product_at, product_to}
-use Rattle.mat_elem.specs.declared.float.Complex.{Complex}
+use Rattle.checked.specs.declared.Complex.{Complex}
 use Rattle.mat_elem.proofs.float.Zero.{Near, same, zeros, near_add}
 use Rattle.mat_elem.proofs.float.Never.{add-live}
 use Rattle.mat_elem.proofs.float.Times.{Plain, times-near, turned_plain}
@@ -50,7 +50,7 @@ same_add x y z l n p = go (finite x) refl
     go false e = add-past x y e (near-finite n p.is_finite) ∙ sym (add-past x z e p.is_finite)
 
 -- ---- the partial sums
-abbrev pub BothLive : Complex → Type 0
+abbrev pub BothLive : Complex Float → Type 0
 BothLive c = Live c.re × Live c.im
 
 module _ (z : ℕ → Bool) (xs zs : List ℕ) (re im : List Float) (t ket : ℕ) where
@@ -67,10 +67,10 @@ module _ (z : ℕ → Bool) (xs zs : List ℕ) (re im : List Float) (t ket : ℕ
       let tp = turned_plain a b w.0 w.1 k in
       go (in_block xs t n) (product_at z xs zs re im ket n) (term_at xs zs re im ket n) tn.0 tn.1 tp.0 tp.1 _ _ ih.0 ih.1
     where
-      go : (at : Bool) (c d : Complex) → Near c.re d.re → Near c.im d.im → Plain d.re → Plain d.im → (x y : Complex) → x ≡ y → BothLive y
-          → (step_if at (λ (s : Complex). plus s c) x ≡ step_if at (λ (s : Complex). plus s d) y) × BothLive (step_if at (λ (s : Complex). plus s d) y)
+      go : (at : Bool) (c d : Complex Float) → Near c.re d.re → Near c.im d.im → Plain d.re → Plain d.im → (x y : Complex Float) → x ≡ y → BothLive y
+          → (step_if at (λ (s : Complex Float). plus s c) x ≡ step_if at (λ (s : Complex Float). plus s d) y) × BothLive (step_if at (λ (s : Complex Float). plus s d) y)
       go false c d p q r s x y e l = (e, l)
       go true c d p q r s x y e l = (
-        ap (λ (u : Complex). plus u c) e ∙ ap₂ complex (same_add y.re c.re d.re l.0 p r) (same_add y.im c.im d.im l.1 q s),
+        ap (λ (u : Complex Float). plus u c) e ∙ ap₂ complex (same_add y.re c.re d.re l.0 p r) (same_add y.im c.im d.im l.1 q s),
         (live-add y.re d.re l.0 r, live-add y.im d.im l.1 s),
       )

@@ -7,7 +7,7 @@ use lib.Ieee.Exact.{round_exact}
 use lib.Ieee.Fits.{round-fits, down_pos}
 use Rattle.mat_elem.specs.float.Sums.{complex, turned_by}
 use Rattle.mat_elem.specs.float.Product.{times, one_f, unit}
-use Rattle.mat_elem.specs.declared.float.Complex.{Complex}
+use Rattle.checked.specs.declared.Complex.{Complex}
 use Rattle.mat_elem.proofs.float.Unique.{unique, round-own}
 use Rattle.mat_elem.proofs.float.Zero.{zero_of, zero_is, Near, near-l, near-r}
 
@@ -110,7 +110,7 @@ module _ (z : Bool) (a b : Float) (p : Plain a) (q : Plain b) where
       let w = mul-by-zero z b q.is_finite in
       rw (mul-by-one a p.is_finite p.is-f64 t, w.1) (near-r (signed t a) r.is_finite r.is-f64 w.0)
 
-  abbrev both : Complex
+  abbrev both : Complex Float
   both = complex a b
 
   pub times-near : (k : ℕ) → Near (times both (unit z k)).re (turned_by k both).re × Near (times both (unit z k)).im (turned_by k both).im

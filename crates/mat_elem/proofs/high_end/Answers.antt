@@ -1,4 +1,4 @@
-use Rattle.std.proofs.Common.{sym, ◌∙◌, le_refl, arith, ltb-false}
+use Rattle.std.proofs.Common.{le_refl}
 use Rattle.mat_elem.proofs.Places.{from-split}
 use Rattle.mat_elem.proofs.high_end.Goals as goal
 
@@ -9,7 +9,3 @@ returns-then-x-guess c =
 pub returns-then-is_below : goal.returns-then-is_below
 returns-then-is_below c =
     ((from-split c.args.x.now c.args.t c.requires).within, le_refl _)
-
-pub returns-else-is_below : goal.returns-else-is_below
-returns-else-is_below c =
-    (ltb-false _ _ (sym c.is_below.ensures ∙ c.if-is_below.false), omega (arith, c.if-x-guess.false))

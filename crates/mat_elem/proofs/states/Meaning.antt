@@ -13,12 +13,12 @@ use Rattle.encoding.proofs.WordLaws.{length-bits, Fit}
 use Rattle.checked.specs.Range.{gauss, pair_of}
 use Rattle.checked.proofs.Six.{conjugate-is}
 use Rattle.mat_elem.specs.Terms.{in_block}
+use Rattle.checked.specs.declared.Complex.{Complex}
 use Rattle.mat_elem.specs.Sums.{sum_over}
 use Rattle.mat_elem.specs.Operator.{state_of, operator}
-use Rattle.mat_elem.specs.states.Sums.{Terms, State, Running, coefficient_at, element_at, through, on_ket, on_bra, no_pair, all_pairs, vector_lines, total, total_of}
+use Rattle.mat_elem.specs.Sums.{Refused}
+use Rattle.mat_elem.specs.states.Sums.{Total, Sum, Terms, State, Running, coefficient_at, element_at, through, on_ket, on_bra, no_pair, all_pairs, vector_lines, total, total_of}
 use Rattle.mat_elem.specs.states.Vectors.{vector_of, between, MatElem}
-use Rattle.mat_elem.specs.declared.states.Total.{Total}
-use Rattle.mat_elem.specs.declared.states.Total.TheVariants.{Sum, Refused}
 use Rattle.mat_elem.proofs.Entry.{take-bits, entry-low}
 use Rattle.mat_elem.proofs.whole.Meaning.{same_sum}
 use Rattle.mat_elem.proofs.states.Tests.{Words, tests-words}
@@ -135,7 +135,7 @@ given-sum : (k : ℕ) (r : Running) (u v : ℤ) → total k r ≡ Sum u v → (k
 given-sum zero r u v q = go r.fits q
   where
     go : (f : Bool) → cond f (Sum r.sum.re r.sum.im) (Refused 16) ≡ Sum u v → (◌≡◌ {A = ℕ} 0 0) × (gauss u v ≡ r.sum)
-    go true z = let a : r.sum.re ≡ u = cc in let b : r.sum.im ≡ v = cc in (refl, sym (ap₂ gauss a b))
+    go true z = let q : ◌≡◌ {A = Complex ℤ} (record { re = r.sum.re; im = r.sum.im }) (record { re = u; im = v }) = cc in (refl, sym (ap (λ (c : Complex ℤ). gauss c.re c.im) q))
     go false z = let no : ◌≡◌ {A = ℕ} 0 1 = cc in absurd (omega arith)
 given-sum (suc k) r u v q = let no : ◌≡◌ {A = ℕ} 0 1 = cc in absurd (omega arith)
 

@@ -7,10 +7,10 @@ use Rattle.checked.proofs.Never.{both_small, sum-size, pair_size, pair_small}
 use Rattle.mat_elem.specs.Sums.{exponent_of, step_if, sum_over}
 use Rattle.mat_elem.specs.Operator.{coefficient}
 use Rattle.mat_elem.specs.whole.Sums.{complex, turned_by, plus, term_at}
-use Rattle.mat_elem.specs.declared.whole.Complex.{Complex}
+use Rattle.checked.specs.declared.Complex.{Complex}
 use Rattle.mat_elem.specs.states.Sums.{Terms, State, Running, coefficient_at, element_at, through, on_ket, on_bra, no_pair, all_pairs}
 use Rattle.mat_elem.specs.states.Sizes.{size_to, terms_size, state_size, Small}
-use Rattle.mat_elem.proofs.whole.Size.{nat_abs-neg}
+use Rattle.mat_elem.specs.whole.Laws.{nat_abs-neg}
 
 -- ---- sizes of lists
 
@@ -27,20 +27,20 @@ module _ (re im : List ℤ) where
 
 -- ---- an element is at most the terms' size
 
-abbrev size_c : Complex → ℕ
+abbrev size_c : Complex ℤ → ℕ
 size_c c = size_of (gauss c.re c.im)
 
 swap : (x y : ℕ) → x + y ≡ y + x
 swap x y = omega arith
 
-turned-size : (k : ℕ) (c : Complex) → size_c (turned_by k c) ≡ size_c c
+turned-size : (k : ℕ) (c : Complex ℤ) → size_c (turned_by k c) ≡ size_c c
 turned-size zero c = refl
 turned-size (suc zero) c = ap (λ (x : ℕ). x + nat_abs c.re) (nat_abs-neg c.im) ∙ swap (nat_abs c.im) (nat_abs c.re)
 turned-size (suc (suc zero)) c = ap₂ ◌+◌ (nat_abs-neg c.re) (nat_abs-neg c.im)
 turned-size (suc (suc (suc k))) c = ap (λ (x : ℕ). nat_abs c.im + x) (nat_abs-neg c.re) ∙ swap (nat_abs c.im) (nat_abs c.re)
 
 module _ (xs zs : List ℕ) (re im : List ℤ) (ket : ℕ) (at : ℕ → Bool) where
-  abbrev up_to : ℕ → Complex
+  abbrev up_to : ℕ → Complex ℤ
   up_to m = sum_over at plus (complex (pos 0) (pos 0)) (term_at xs zs re im ket) m
 
   pub block_size : (m : ℕ) → size_c (up_to m) ≤ size_to re im m
@@ -54,7 +54,7 @@ module _ (xs zs : List ℕ) (re im : List ℤ) (ket : ℕ) (at : ℕ → Bool) w
       term : size_c (term_at xs zs re im ket m) ≡ size_of (coefficient re im m)
       term = turned-size e (complex (get_or re m (pos 0)) (get_or im m (pos 0)))
 
-      go : (b : Bool) → size_c (up_to m) ≤ size_to re im m → size_c (step_if b (λ (s : Complex). plus s (term_at xs zs re im ket m)) (up_to m)) ≤ size_to re im m + size_of (coefficient re im m)
+      go : (b : Bool) → size_c (up_to m) ≤ size_to re im m → size_c (step_if b (λ (s : Complex ℤ). plus s (term_at xs zs re im ket m)) (up_to m)) ≤ size_to re im m + size_of (coefficient re im m)
       go true h =
           let s = sum-size (gauss (up_to m).re (up_to m).im) (gauss (term_at xs zs re im ket m).re (term_at xs zs re im ket m).im) in
           le_trans s (omega (arith, h, term))

@@ -11,9 +11,8 @@ use Rattle.encoding.specs.Refusals.{some}
 use Rattle.encoding.specs.Ranks.{by_rank}
 use Rattle.mat_elem.specs.Terms.{set_from, has_a_block, lines_to10, term_lines}
 use Rattle.mat_elem.specs.whole.Sums.{complex, plus, term_at, block_sum, element, element_of}
-use Rattle.mat_elem.specs.declared.whole.Complex.{Complex}
-use Rattle.mat_elem.specs.declared.states.Total.TheVariants.{Sum}
-use Rattle.mat_elem.specs.states.Sums.{Terms, element_at, through, all_pairs, vector_lines, total, total_of}
+use Rattle.checked.specs.declared.Complex.{Complex}
+use Rattle.mat_elem.specs.states.Sums.{Sum, Terms, element_at, through, all_pairs, vector_lines, total, total_of}
 use Rattle.mat_elem.specs.states.Sizes.{size_to, state_size, alone, as_total}
 use Rattle.mat_elem.proofs.SumLaws.{sum-empty}
 use Rattle.mat_elem.proofs.states.Tests.{tests-ready}
@@ -59,12 +58,12 @@ module _ (n : ℕ) (A : Terms) (bra ket : ℕ) where
         t : ℕ
         t = bit_xor bra ket
 
-        s : Complex
+        s : Complex ℤ
         s = block_sum A.xs A.zs A.re A.im t ket
 
         found : (b : Bool) → has_a_block A.xs t ≡ b → Sum s.re s.im ≡ as_total (element 0 b s)
         found true e = refl
-        found false e = ap (λ (c : Complex). Sum c.re c.im) (sum-empty plus (complex (pos 0) (pos 0)) (term_at A.xs A.zs A.re A.im ket) A.xs t e)
+        found false e = ap (λ (c : Complex ℤ). Sum c.re c.im) (sum-empty plus (complex (pos 0) (pos 0)) (term_at A.xs A.zs A.re A.im ket) A.xs t e)
 
         go : (k : ℕ) → tests ≡ k → total tests (all_pairs A (alone bra) (alone ket))
             ≡ as_total (element (by_rank (term_lines n A.xs A.zs (length A.re) (length A.im) bra ket)) (has_a_block A.xs t) s)

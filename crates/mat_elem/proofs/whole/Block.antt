@@ -1,76 +1,80 @@
--- The sum over a block of whole numbers, from one place to the next, and how large it can be; what the call answers. Assumes nothing.
--- Invariant: s is the sum from `first` up to i, and each part is at most i times the largest part of a coefficient.
-use Rattle.std.proofs.Common.{◌≡◌, ℕ, zero, suc, ◌+◌, ◌*◌, ◌<◌, ◌≤◌, false, List, length, get_or, ℤ, pos, sym, refl, ap, ◌∙◌, subst, le_refl, arith}
+-- The sum over a block of whole numbers, how large it can be, and what the call answers. Assumes nothing.
+-- Of 65,536 terms at most, each of i32 parts, no sum leaves i64 (`sum-within`), and none refuses the call (`span-is`).
+use Rattle.std.proofs.Common.{◌≡◌, ℕ, zero, suc, ◌<◌, ◌≤◌, Bool, true, false, cond, leb, List, length, ℤ, pos, Some, Result, Ok, Err, sym, refl, ap, ◌∙◌, arith}
+use borrow.Author.Tests.{leb-true, leb-false}
 use lib.Bits.{bit_xor}
-use Rattle.mat_elem.specs.Terms.{max_terms, has_a_block, falls}
-use Rattle.mat_elem.specs.Workers.{found_of, part_max, sum_max, Within, block_from, block_to, place_of, PartOf, Ready, no_term, part_sum}
+use Rattle.encoding.proofs.Scan.{any-never, some-never}
+use Rattle.checked.specs.declared.Complex.{Complex}
+use Rattle.encoding.specs.Ranks.{by_rank}
+use Rattle.mat_elem.specs.Terms.{max_terms, term_lines, has_a_block, falls}
+use Rattle.mat_elem.specs.Workers.{found_of, sum_max, Within, reaches, block_from, block_to, place_of, PartOf, Ready}
+use Rattle.mat_elem.specs.Numbers.{wholes, none, span_sum, wild, span_of, sum_or, answer_by, answer_of}
+use Rattle.mat_elem.specs.whole.Sums.{plus, term_at, block_sum, element, element_of}
 use Rattle.mat_elem.specs.declared.Place.{Place}
-use Rattle.mat_elem.specs.declared.Found.{Found}
-use Rattle.mat_elem.specs.declared.Found.TheVariants as F
-use Rattle.mat_elem.specs.Sums.{exponent_of}
+use Rattle.encoding.specs.declared.Refusal.{Refusal}
+use Rattle.encoding.specs.Refusals.{answer_or}
+use Rattle.mat_elem.specs.Sums.{Element, Sum, NoBlock}
 use Rattle.mat_elem.proofs.Places.{block_of}
-use Rattle.mat_elem.proofs.Faults.{found-refusal, found-block}
-use Rattle.mat_elem.proofs.SumLaws.{range_none, range-next, block-range, has_block, no_block}
-use Rattle.mat_elem.specs.whole.Sums.{complex, plus, term_at, block_sum, element, element_of}
-use Rattle.mat_elem.specs.declared.whole.Complex.{Complex}
-use Rattle.mat_elem.specs.declared.whole.Element.TheVariants.{Sum, NoBlock, Refused}
-use Rattle.mat_elem.proofs.whole.Size.{within-turned, within-plus, within-le}
+use Rattle.mat_elem.proofs.Faults.{found-block}
+use Rattle.mat_elem.proofs.SumLaws.{block-range, has_block, no_block}
+use Rattle.mat_elem.proofs.Span.{Summed}
+use Rattle.mat_elem.proofs.whole.Size.{sum-small}
 
-pub record Summed (xs zs : List ℕ) (re im : List ℤ) (ket first last i : ℕ) (s : Complex) : Type 0 where
-  pub started : first ≤ i
-  pub le : i ≤ last
-  pub is : s ≡ part_sum xs zs re im ket first i
-  pub small : Within (i * part_max) s
-
+-- ---- the loop: every sum of whole numbers is sound, and none leaves i64
 module _ (xs zs : List ℕ) (re im : List ℤ) (ket first last : ℕ) where
-  pub sum-none : first ≤ last → Summed xs zs re im ket first last first no_term
-  sum-none h = record { started = le_refl first; le = h; is = range_none plus no_term (term_at xs zs re im ket) first first (le_refl first); small = record { re-le = omega arith; im-le = omega arith } }
+  pub span-is : span_of wholes xs zs re im ket first last ≡ Some (span_sum wholes xs zs re im ket first last)
+  unfolding span_of
+  span-is = rw (any-never (λ n. false) (suc last) (λ k l. refl))
 
-  pub sum_more : {i : ℕ} {s r : Complex} → Summed xs zs re im ket first last i s → i < last → Within part_max (complex (get_or re i (pos 0)) (get_or im i (pos 0)))
-      → r ≡ plus s (term_at xs zs re im ket i) → Summed xs zs re im ket first last (i + 1) r
-  sum_more {i} {s} {r} m h w e =
-      record {
-        started = omega (arith, m.started);
-        le = omega arith;
-        is = e ∙ ap (λ (c : Complex). plus c (term_at xs zs re im ket i)) m.is ∙ sym (range-next plus no_term (term_at xs zs re im ket) first i m.started);
-        small = subst (Within ((i + 1) * part_max)) (sym e) (within-le _ _ _ (omega arith) (within-plus (i * part_max) part_max s (term_at xs zs re im ket i) m.small (within-turned part_max (exponent_of (get_or xs i 0) (get_or zs i 0) ket) _ w)));
-      }
+  pub sum-within : {i : ℕ} {s : Complex ℤ} → Summed wholes reaches xs zs re im ket first last i s → last ≤ max_terms → Within sum_max s
+  sum-within {i} {s} m h = record { re-le = sum-small i s.re (omega (arith, m.le)) m.re-reaches; im-le = sum-small i s.im (omega (arith, m.le)) m.im-reaches }
 
-  pub sum-all : {i : ℕ} {s : Complex} → Summed xs zs re im ket first last i s → last ≤ i → s ≡ part_sum xs zs re im ket first last
-  sum-all {i} m h =
-      let e : i ≡ last = omega (arith, m.le) in
-      m.is ∙ ap (part_sum xs zs re im ket first) e
-
-  pub sum-within : {i : ℕ} {s : Complex} → Summed xs zs re im ket first last i s → last ≤ max_terms → Within sum_max s
-  sum-within {i} {s} m h = within-le (i * part_max) sum_max s (omega (arith, m.le)) m.small
+wild-never : (re im : List ℤ) → wild wholes re im ≡ false
+wild-never re im = rw (some-never (λ (z : ℤ). false) (pos 0) re (λ k l. refl), some-never (λ (z : ℤ). false) (pos 0) im (λ k l. refl))
 
 -- ---- what the call answers, by what was found
 module _ (n : ℕ) (xs zs : List ℕ) (re im : List ℤ) (bra ket : ℕ) where
-  abbrev found : Found
+  abbrev found : Result Place Refusal
   found = found_of n xs zs (length re) (length im) bra ket
 
-  pub answer-refused : (k : ℕ) → found ≡ F.Refused k → Refused k ≡ element_of n xs zs re im bra ket
-  unfolding element_of
-  answer-refused k e =
-      let r = found-refusal n xs zs (length re) (length im) bra ket e in
-      rw r.0 (go k r.1)
+  pub answer-refused : {e : Refusal} → found ≡ Err e → Err e ≡ element_of n xs zs re im bra ket
+  unfolding element_of found_of answer_or
+  answer-refused {e} h = go (by_rank (term_lines n xs zs (length re) (length im) bra ket)) h
     where
-      go : (k : ℕ) → (k ≡ 0 → ⊥) → Refused k ≡ element k (has_a_block xs (bit_xor bra ket)) (block_sum xs zs re im (bit_xor bra ket) ket)
-      go zero h = absurd (h refl)
-      go (suc k) h = refl
+      go : (k : ℕ) → answer_or k (place_of xs (bit_xor bra ket)) ≡ Err e → Err e ≡ element k (has_a_block xs (bit_xor bra ket)) (block_sum xs zs re im (bit_xor bra ket) ket)
+      go zero h = cc
+      go (suc k) h = let q : e ≡ record { 0 = suc k } = cc in ap (λ (r : Refusal). Err r) q
 
-  module _ (first last : ℕ) (e : found ≡ F.Block first last) where
+  module _ (p : Place) (e : found ≡ Ok p) where
+    abbrev first : ℕ
+    first = p.first
+
+    abbrev last : ℕ
+    last = p.last
+
     pub answer-none : last ≤ first → NoBlock ≡ element_of n xs zs re im bra ket
     unfolding element_of
     answer-none h =
         let f = found-block n xs zs (length re) (length im) bra ket e in
         rw (f.0, no_block xs (bit_xor bra ket) first last f.1 h)
 
-    pub answer-sum : first < last → {s : Complex} → s ≡ part_sum xs zs re im ket first last → Sum s.re s.im ≡ element_of n xs zs re im bra ket
+    pub answer-sum : first < last → {s : (Complex ℤ)} → s ≡ span_sum wholes xs zs re im ket first last → Sum s.re s.im ≡ element_of n xs zs re im bra ket
     unfolding element_of
     answer-sum h {s} q =
         let f = found-block n xs zs (length re) (length im) bra ket e in
-        rw (f.0, has_block xs (bit_xor bra ket) first last f.1 h, block-range plus no_term (term_at xs zs re im ket) xs (bit_xor bra ket) first last f.1, q)
+        rw (f.0, has_block xs (bit_xor bra ket) first last f.1 h, block-range plus (none wholes) (term_at xs zs re im ket) xs (bit_xor bra ket) first last f.1, q)
+
+  pub answer-is : {r : Element ℤ} → r ≡ answer_of wholes n xs zs re im bra ket → r ≡ element_of n xs zs re im bra ket
+  answer-is {r} q = q ∙ go found refl
+    where
+      place : (p : Place) → found ≡ Ok p → (b : Bool) → leb p.last p.first ≡ b
+          → cond b NoBlock (sum_or wholes (span_of wholes xs zs re im ket p.first p.last)) ≡ element_of n xs zs re im bra ket
+      place p e true h = answer-none p e (leb-true p.last p.first h)
+      place p e false h = rw (span-is xs zs re im ket p.first p.last) (answer-sum p e (leb-false p.last p.first h) refl)
+
+      go : (f : Result Place Refusal) → found ≡ f → answer_by wholes f xs zs re im ket ≡ element_of n xs zs re im bra ket
+      go (Err r) e = answer-refused e
+      go (Ok p) e = rw (wild-never re im) (place p e (leb p.last p.first) refl)
 
 -- ---- the element between two words, of terms that were tested
 module _ (xs : List ℕ) (t : ℕ) {p : Place} (e : p ≡ place_of xs t) where
@@ -87,7 +91,7 @@ module _ (xs : List ℕ) (t : ℕ) {p : Place} (e : p ≡ place_of xs t) where
         few = omega (arith, b.within, r.few);
       })
 
-  pub element-ready : (zs : List ℕ) (re im : List ℤ) (ket : ℕ) → falls xs ≡ false → {s : Complex} → s ≡ part_sum xs zs re im ket p.first p.last → s ≡ block_sum xs zs re im t ket
+  pub element-ready : (zs : List ℕ) (re im : List ℤ) (ket : ℕ) → falls xs ≡ false → {s : (Complex ℤ)} → s ≡ span_sum wholes xs zs re im ket p.first p.last → s ≡ block_sum xs zs re im t ket
   element-ready zs re im ket h q =
-      q ∙ ap (λ (o : Place). part_sum xs zs re im ket o.first o.last) e
-      ∙ sym (block-range plus no_term (term_at xs zs re im ket) xs t (block_from xs t) (block_to xs t) (block_of xs t h))
+      q ∙ ap (λ (o : Place). span_sum wholes xs zs re im ket o.first o.last) e
+      ∙ sym (block-range plus (none wholes) (term_at xs zs re im ket) xs t (block_from xs t) (block_to xs t) (block_of xs t h))

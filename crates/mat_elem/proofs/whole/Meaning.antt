@@ -6,19 +6,18 @@ use lib.IntN.{+ℤ_idl, +ℤ_idr, *ℤ-zero, *ℤ-one, neg_ℤ-neg_ℤ, one}
 use Rattle.pauli.specs.Gauss.{Gauss, ◌⊕◌, ◌⊗◌, g0, gi, ipow}
 use Rattle.pauli.proofs.GaussRing.{by_parts, ⊗-assoc}
 use Rattle.pauli.proofs.Vectors.{⊗-g1}
+use Rattle.encoding.specs.declared.Refusal.{Refusal}
 use Rattle.encoding.specs.Ranks.{by_rank}
 use Rattle.encoding.proofs.Ranks.{Given}
 use Rattle.encoding.proofs.WordLaws.{Fit}
 use Rattle.mat_elem.specs.Terms.{term_lines, in_block, has_a_block}
-use Rattle.mat_elem.specs.Sums.{exponent_of, turned, step_if, sum_over}
+use Rattle.mat_elem.specs.Sums.{Element, Sum, NoBlock, Refused, exponent_of, turned, step_if, sum_over}
 use Rattle.mat_elem.specs.Operator.{state_of, coefficient, operator}
 use Rattle.mat_elem.proofs.Entry.{adds, operator-entry}
 use Rattle.mat_elem.proofs.OneOf.{Differ, refused-when as any-refused, none-when as any_none}
 use Rattle.mat_elem.proofs.SumLaws.{sum-empty}
 use Rattle.mat_elem.specs.whole.Sums.{complex, plus, term_at, block_sum, element, element_of, value_of, MatElem}
-use Rattle.mat_elem.specs.declared.whole.Complex.{Complex}
-use Rattle.mat_elem.specs.declared.whole.Element.{Element}
-use Rattle.mat_elem.specs.declared.whole.Element.TheVariants.{Sum, NoBlock, Refused}
+use Rattle.checked.specs.declared.Complex.{Complex}
 
 -- ---- turning by the exponent
 
@@ -45,11 +44,11 @@ turned-is (suc (suc (suc (suc k)))) h c = absurd (omega arith)
 
 -- ---- the sum over the block, as Gaussian integers
 
-abbrev gauss : Complex → Gauss
+abbrev gauss : Complex ℤ → Gauss
 gauss c = record { re = c.re; im = c.im }
 
 module _ (xs zs : List ℕ) (re im : List ℤ) (ket : ℕ) (at : ℕ → Bool) where
-  abbrev partial : ℕ → Complex
+  abbrev partial : ℕ → Complex ℤ
   partial n = sum_over at plus (complex (pos 0) (pos 0)) (term_at xs zs re im ket) n
 
   pub same_sum : (n : ℕ) → gauss (partial n) ≡ sum_over at ◌⊕◌ g0 (adds xs zs re im ket) n
@@ -61,7 +60,7 @@ module _ (xs zs : List ℕ) (re im : List ℤ) (ket : ℕ) (at : ℕ → Bool) w
       k = exponent_of (get_or xs n 0) (get_or zs n 0) ket
 
       go : (b : Bool) → gauss (partial n) ≡ sum_over at ◌⊕◌ g0 (adds xs zs re im ket) n
-          → gauss (step_if b (λ (s : Complex). plus s (term_at xs zs re im ket n)) (partial n)) ≡ step_if b (λ (s : Gauss). s ⊕ adds xs zs re im ket n) (sum_over at ◌⊕◌ g0 (adds xs zs re im ket) n)
+          → gauss (step_if b (λ (s : Complex ℤ). plus s (term_at xs zs re im ket n)) (partial n)) ≡ step_if b (λ (s : Gauss). s ⊕ adds xs zs re im ket n) (sum_over at ◌⊕◌ g0 (adds xs zs re im ket) n)
       go true ih = ap₂ (λ (s u : Gauss). s ⊕ u) ih (turned-is k (omega arith) (coefficient re im n))
       go false ih = ih
 
@@ -69,7 +68,7 @@ module _ (xs zs : List ℕ) (re im : List ℤ) (ket : ℕ) (at : ℕ → Bool) w
 
 differ : {a b : ℤ} → Differ Refused NoBlock (Sum a b)
 differ = record {
-  numbers = λ j k e. cc;
+  numbers = λ j k e. let q : ◌≡◌ {A = Refusal} (record { 0 = j }) (record { 0 = k }) = cc in ap (λ (r : Refusal). r.0) q;
   refused_none = λ j e. let no : ◌≡◌ {A = ℕ} 0 1 = cc in omega arith;
   refused-sum = λ j e. let no : ◌≡◌ {A = ℕ} 0 1 = cc in omega arith;
   none-sum = λ e. let no : ◌≡◌ {A = ℕ} 0 1 = cc in omega arith;
@@ -90,7 +89,7 @@ module _ (n : ℕ) (xs zs : List ℕ) (re im : List ℤ) (bra ket : ℕ) where
       go true h q = same_sum xs zs re im ket (in_block xs (bit_xor bra ket)) (length xs) ∙ sym q
       go false h q = sym (q ∙ sum-empty ◌⊕◌ g0 (adds xs zs re im ket) xs (bit_xor bra ket) h)
 
-  pub mat-elem : {r : Element} → r ≡ element_of n xs zs re im bra ket → Fit xs → Fit zs → bra < 2 ^ 64 → ket < 2 ^ 64 → MatElem n xs zs re im bra ket r
+  pub mat-elem : {r : (Element ℤ)} → r ≡ element_of n xs zs re im bra ket → Fit xs → Fit zs → bra < 2 ^ 64 → ket < 2 ^ 64 → MatElem n xs zs re im bra ket r
   mat-elem e fx fz hb hk = record { answer = e; entry = λ z. ap value_of e ∙ entry_of z fx fz hb hk }
 
   -- ---- exactly when

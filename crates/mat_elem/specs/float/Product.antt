@@ -6,14 +6,12 @@ use Rattle.std.specs.Float.Ieee.{add, sub, mul}
 use Rattle.encoding.specs.Refusals.{some_below}
 use Rattle.encoding.specs.Ranks.{line, by_rank}
 use Rattle.mat_elem.specs.Terms.{term_lines, in_block, has_a_block}
-use Rattle.mat_elem.specs.Sums.{exponent_of, sum_over}
+use Rattle.mat_elem.specs.Sums.{Element, Sum, exponent_of, sum_over}
 use Rattle.mat_elem.specs.float.Sums.{complex, plus, coefficient, plus_zero, both_finite, wild, element, element_of}
-use Rattle.mat_elem.specs.declared.float.Complex.{Complex}
-use Rattle.mat_elem.specs.declared.float.Element.{Element}
-use Rattle.mat_elem.specs.declared.float.Element.TheVariants.{Sum}
+use Rattle.checked.specs.declared.Complex.{Complex}
 
 -- the product of two complex numbers, each of its six operations rounded once
-abbrev pub times : Complex → Complex → Complex
+abbrev pub times : Complex Float → Complex Float → Complex Float
 times x y = record {
   re = sub binary64 (mul binary64 x.re y.re) (mul binary64 x.im y.im);
   im = add binary64 (mul binary64 x.re y.im) (mul binary64 x.im y.re);
@@ -27,21 +25,21 @@ abbrev pub nil_f : Bool → Float
 nil_f s = fin s 0 (pos 0)
 
 -- i to the k; z is the sign of its part that is 0
-abbrev pub unit : Bool → ℕ → Complex
+abbrev pub unit : Bool → ℕ → Complex Float
 unit z zero = complex (one_f false) (nil_f z)
 unit z (suc zero) = complex (nil_f z) (one_f false)
 unit z (suc (suc zero)) = complex (one_f true) (nil_f z)
 unit z (suc (suc (suc k))) = complex (nil_f z) (one_f true)
 
 -- what term i adds; z gives the sign for each exponent
-abbrev pub product_at : (ℕ → Bool) → List ℕ → List ℕ → List Float → List Float → ℕ → ℕ → Complex
+abbrev pub product_at : (ℕ → Bool) → List ℕ → List ℕ → List Float → List Float → ℕ → ℕ → Complex Float
 product_at z xs zs re im ket i = let k = exponent_of (slice_index xs i) (slice_index zs i) ket in times (coefficient re im i) (unit (z k) k)
 
-abbrev pub product_to : (ℕ → Bool) → List ℕ → List ℕ → List Float → List Float → ℕ → ℕ → ℕ → Complex
+abbrev pub product_to : (ℕ → Bool) → List ℕ → List ℕ → List Float → List Float → ℕ → ℕ → ℕ → Complex Float
 product_to z xs zs re im t ket n = sum_over (in_block xs t) plus (complex plus_zero plus_zero) (product_at z xs zs re im ket) n
 
 -- the answer with the products' partial sums and sum
-unfoldable pub product_of : (ℕ → Bool) → ℕ → List ℕ → List ℕ → List Float → List Float → ℕ → ℕ → Element
+unfoldable pub product_of : (ℕ → Bool) → ℕ → List ℕ → List ℕ → List Float → List Float → ℕ → ℕ → Element Float
 product_of z n xs zs re im bra ket =
     element
     (by_rank (term_lines n xs zs (length re) (length im) bra ket ++ line 11 (wild re im) ∷ line 12 (some_below (suc (length xs)) (λ k. not (both_finite (product_to z xs zs re im (bit_xor bra ket) ket k)))) ∷ []))
@@ -57,7 +55,7 @@ not_minus_zero (fin true zero e) = false
 not_minus_zero (fin true (suc m) e) = true
 
 -- the whole of the call: its answer, by turns; that this has the bits of the one by products; and that no part of a sum is -0
-pub record MatElem (n : ℕ) (xs zs : List ℕ) (re im : List Float) (bra ket : ℕ) (r : Element) : Type 0 where
+pub record MatElem (n : ℕ) (xs zs : List ℕ) (re im : List Float) (bra ket : ℕ) (r : Element Float) : Type 0 where
   pub answer : r ≡ element_of n xs zs re im bra ket
   pub by-products : (z : ℕ → Bool) → r ≡ product_of z n xs zs re im bra ket
   pub never-minus-zero : (a b : Float) → r ≡ Sum a b → T (not_minus_zero a) × T (not_minus_zero b)

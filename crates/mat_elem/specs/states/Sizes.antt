@@ -1,13 +1,10 @@
 -- RULES 8.19, "the absolute values of all real and imaginary parts": how large coefficients may be so that 16 cannot arise; and, RULES 8.20, one vector
 -- beside one vector. Assumes nothing.
-use Rattle.std.specs.Prelude.{ℕ, zero, suc, ◌+◌, ◌*◌, ◌^◌, ◌<◌, List, [], ◌∷◌, length, ℤ, pos}
+use Rattle.std.specs.Prelude.{ℕ, zero, suc, ◌+◌, ◌*◌, ◌^◌, ◌<◌, List, [], ◌∷◌, length, ℤ, pos, Some, None, Ok, Err}
 use Rattle.checked.specs.Range.{size_of}
 use Rattle.mat_elem.specs.Operator.{coefficient}
-use Rattle.mat_elem.specs.states.Sums.{Terms, State}
-use Rattle.mat_elem.specs.declared.whole.Element.{Element}
-use Rattle.mat_elem.specs.declared.whole.Element.TheVariants as element
-use Rattle.mat_elem.specs.declared.states.Total.{Total}
-use Rattle.mat_elem.specs.declared.states.Total.TheVariants.{Sum, Refused}
+use Rattle.mat_elem.specs.states.Sums.{Total, Sum, Terms, State}
+use Rattle.mat_elem.specs.Sums.{Element}
 
 -- of the first m coefficients
 unfoldable pub size_to : List ℤ → List ℤ → ℕ → ℕ
@@ -30,7 +27,7 @@ abbrev pub alone : ℕ → State
 alone w = record { words = w ∷ []; re = pos 1 ∷ []; im = pos 0 ∷ [] }
 
 -- the answer of the call for one bra and one ket, "no block" as zero
-abbrev pub as_total : Element → Total
-as_total (element.Sum a b) = Sum a b
-as_total element.NoBlock = Sum (pos 0) (pos 0)
-as_total (element.Refused k) = Refused k
+abbrev pub as_total : Element ℤ → Total
+as_total (Ok (Some s)) = Ok s
+as_total (Ok None) = Sum (pos 0) (pos 0)
+as_total (Err e) = Err e

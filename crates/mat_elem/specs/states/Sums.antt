@@ -1,6 +1,6 @@
 -- RULES 8.14 to 8.17, "States of many basis vectors", over whole numbers without bound: the lines of the table, the pairs in the order of the work with the
 -- running sum and whether every number on the way is an i64, and what the call answers. Assumes nothing.
-use Rattle.std.specs.Prelude.{ℕ, zero, suc, Bool, true, cond, not, ◌&&◌, ◌||◌, List, length, ℤ, ◌==◌, bit_xor, nat_lt, slice_index}
+use Rattle.std.specs.Prelude.{ℕ, zero, suc, Bool, true, cond, not, ◌&&◌, ◌||◌, List, length, ℤ, ◌==◌, bit_xor, nat_lt, slice_index, Result, Ok}
 use Rattle.pauli.specs.Gauss.{Gauss, ◌⊕◌, g0}
 use Rattle.encoding.specs.Refusals.{some}
 use Rattle.encoding.specs.Ranks.{TableLine, by_rank}
@@ -8,8 +8,18 @@ use Rattle.checked.specs.Range.{gauss, both_within, pair_fits, pair_of}
 use Rattle.mat_elem.specs.Terms.{set_from, lines_to10}
 use Rattle.mat_elem.specs.Operator.{coefficient}
 use Rattle.mat_elem.specs.whole.Sums.{block_sum}
-use Rattle.mat_elem.specs.declared.states.Total.{Total}
-use Rattle.mat_elem.specs.declared.states.Total.TheVariants.{Sum, Refused}
+use Rattle.encoding.specs.declared.Refusal.{Refusal}
+use Rattle.checked.specs.declared.Complex.{Complex}
+use Rattle.mat_elem.specs.Sums.{Refused}
+use Rattle.mat_elem.specs.declared.Terms as lent
+use Rattle.mat_elem.specs.declared.states.Vectors as vectors
+
+-- what the call answers: the sum, or a refusal
+abbrev pub Total : Type 0
+Total = Result (Complex ℤ) Refusal
+
+abbrev pub Sum : ℤ → ℤ → Total
+Sum a b = Ok (record { re = a; im = b })
 
 -- the terms of an operator, and the basis vectors of a state, each with its coefficient
 pub record Terms : Type 0 where
@@ -28,6 +38,13 @@ terms xs zs re im = record { xs = xs; zs = zs; re = re; im = im }
 
 abbrev pub state : List ℕ → List ℤ → List ℤ → State
 state ws re im = record { words = ws; re = re; im = im }
+
+-- those of terms and of a state that are lent to be read
+abbrev pub terms_of : lent.Terms ℤ → Terms
+terms_of t = terms t.x.now t.z.now t.re.now t.im.now
+
+abbrev pub vectors_of : vectors.Vectors → State
+vectors_of s = state s.words.now s.re.now s.im.now
 
 abbrev pub coefficient_at : State → ℕ → Gauss
 coefficient_at s i = coefficient s.re s.im i

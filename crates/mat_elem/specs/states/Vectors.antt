@@ -6,9 +6,7 @@ use Rattle.pauli.specs.Matrix.{Vector, basis, apply, inner}
 use Rattle.checked.specs.Range.{gauss}
 use Rattle.mat_elem.specs.Sums.{sum_over}
 use Rattle.mat_elem.specs.Operator.{state_of, operator}
-use Rattle.mat_elem.specs.states.Sums.{Terms, State, coefficient_at, total_of}
-use Rattle.mat_elem.specs.declared.states.Total.{Total}
-use Rattle.mat_elem.specs.declared.states.Total.TheVariants.{Sum}
+use Rattle.mat_elem.specs.states.Sums.{Total, Sum, Terms, State, coefficient_at, total_of}
 
 -- the sum over the words of coefficient times basis vector; a word that is there twice adds twice
 unfoldable pub vector_of : ℕ → State → Vector

@@ -1,10 +1,6 @@
 -- The loop keeps `Placed first i`: the sums from first up to i stand in column a, in different rows (`one-row`).
-use Prim.Native.Nat.{◌-◌, ◌≤◌}
 use Rattle.matrix.specs.Workers.{Placed, item, place}
 use Rattle.matrix.proofs.store.Given as goal
 
 abbrev pub invariant-loop-i : goal.invariant-loop-i
-invariant-loop-i l = (l.first ≤ l.i) × (l.i ≤ l.m) × Placed l.first l.i (place l.v 0 l.a) (item l.sums) l.initial.out l.out
-
-abbrev pub decreases-loop-i : goal.decreases-loop-i
-decreases-loop-i l = l.m - l.i
+invariant-loop-i l = Placed l.first l.i (place l.v 0 l.a) (item l.sums) l.initial.out l.out

@@ -1,19 +1,10 @@
-use Rattle.text.proofs.Kit.{arith}
-use Rattle.naming.proofs.Spelled.{end-first, end-here, end_on, end-last}
+use Rattle.text.proofs.Kit.{◌≡◌, arith}
+use Rattle.naming.specs.Names.{name_end}
+use Rattle.naming.proofs.Spelled.{end-first, end-within}
 use Rattle.naming.proofs.name_end.Goals as goal
-
-pub loop-i-init : goal.loop-i-init
-loop-i-init c =
-    (omega arith, end-first _)
-
-pub returns-then-s-i-eq32 : goal.returns-then-s-i-eq32
-returns-then-s-i-eq32 c =
-    (end-here _ _ c.loop-i-test.true c.if-s-i-eq32.true c.loop-i.invariant.1, c.loop-i.invariant.0)
-
-pub loop-i-preserved : goal.loop-i-preserved
-loop-i-preserved c =
-    (omega arith, end_on _ _ c.loop-i-test.true c.if-s-i-eq32.false c.loop-i.invariant.1)
 
 pub returns : goal.returns
 returns c =
-    (end-last _ _ c.loop-i-test.false c.loop-i.invariant.1, c.loop-i.invariant.0)
+    let s = c.args.s.now in
+    let k : c.unwrap_or.result ≡ name_end s = rw c.unwrap_or.ensures (rw c.first_space.ensures (end-first s)) in
+    (k, omega (arith, k, end-within s))

@@ -1,10 +1,9 @@
-use Rattle.text.proofs.Kit.{sym}
+use Rattle.text.proofs.Kit.{refl, sym, ◌∙◌}
+use Rattle.naming.proofs.Spelled.{same-pointwise}
 use Rattle.naming.proofs.named.Goals as goal
 
-pub returns-then-is : goal.returns-then-is
-returns-then-is c =
-    rw (sym c.is.ensures, c.if-is.true)
+pub returns-then-eq : goal.returns-then-eq
+returns-then-eq c = rw (same-pointwise c.args.s.now c.args.name.now ∙ (sym c.eq.ensures ∙ c.if-eq.true)) refl
 
-pub returns : goal.returns
-returns c =
-    rw (sym c.is.ensures, c.if-is.false)
+pub returns-else-eq : goal.returns-else-eq
+returns-else-eq c = rw (same-pointwise c.args.s.now c.args.name.now ∙ (sym c.eq.ensures ∙ c.if-eq.false)) refl

@@ -1,8 +1,6 @@
-use Rattle.products.proofs.InPlace.{inplace-none, inplace-more, multiplied}
+use Rattle.std.proofs.Common.{arith}
+use Rattle.products.proofs.InPlace.{inplace-more, multiplied}
 use Rattle.products.proofs.imul_row.Goals as goal
-
-pub loop-i-init : goal.loop-i-init
-loop-i-init c = inplace-none c.requires
 
 pub loop-i-preserved : goal.loop-i-preserved
 loop-i-preserved c =
@@ -10,4 +8,4 @@ loop-i-preserved c =
 
 pub returns : goal.returns
 returns c =
-    multiplied c.requires c.loop-i.invariant c.loop-i-test.false c.slice_known-1.given c.slice_known-2-1.given c.factor_from.ensures.0 c.factor_from.ensures.1
+    multiplied c.requires c.loop-i.invariant (omega arith) c.slice_known-1.given c.slice_known-2-1.given c.factor_from.ensures.0 c.factor_from.ensures.1

@@ -1,8 +1,6 @@
-use Rattle.products.proofs.RowLaws.{done_none, done_more, done_all}
+use Rattle.std.proofs.Common.{arith}
+use Rattle.products.proofs.RowLaws.{done_more, done_all}
 use Rattle.products.proofs.mul_row.Goals as goal
-
-pub loop-i-init : goal.loop-i-init
-loop-i-init c = done_none c.requires
 
 pub loop-i-preserved : goal.loop-i-preserved
 loop-i-preserved c =
@@ -10,4 +8,4 @@ loop-i-preserved c =
 
 pub returns : goal.returns
 returns c =
-    done_all c.requires c.loop-i.invariant c.loop-i-test.false c.type_inv.lx c.type_inv.lz c.type_inv.rx c.type_inv.rz c.factor_from.ensures.0 c.factor_from.ensures.1
+    done_all c.requires c.loop-i.invariant (omega arith) c.type_inv.lx c.type_inv.lz c.type_inv.rx c.type_inv.rz c.factor_from.ensures.0 c.factor_from.ensures.1

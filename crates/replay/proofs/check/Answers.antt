@@ -1,25 +1,20 @@
--- No loop: at a number all is as it was (`refusing`); where there is none, every test has passed, and the worker's verdict is the call's
--- (`judging`).
+-- At a refusal all is as it was.
+use Rattle.std.proofs.Common.{rules, ◌≡◌, Err, ◌∙◌}
 use Rattle.encoding.specs.Set.{mem_of}
+use Rattle.encoding.proofs.Faults.{refusing, kept}
 use Rattle.replay.specs.Check.{task, claim}
-use Rattle.replay.proofs.Faults.{refusing, judging}
+use Rattle.replay.proofs.Faults.{tells}
 use Rattle.replay.proofs.check.Goals as goal
 
-pub returns-then-f-ne0 : goal.returns-then-f-ne0
-returns-then-f-ne0 c =
+pub returns-in_err-check_fault : goal.returns-in_err-check_fault
+returns-in_err-check_fault c =
     let a = c.args in
-    let T = task a.n (mem_of a.m a.x.now a.z.now a.phases.now) a.order.now a.listed.now a.extra.now in
+    let T = task a.n (mem_of a.m a.x.now a.z.now a.phases.now) a.lists.now.order.now a.lists.now.listed.now a.lists.now.extra.now in
     let L = claim a.log.now (mem_of a.m a.cx.now a.cz.now a.cphases.now) in
-    let f = c.check_fault-f.ensures in
-    refusing T L f.value f.passed c.if-f-ne0.true
-
-pub judge-requires : goal.judge-requires
-judge-requires c = c.check_fault-f.ensures.passed c.if-f-ne0.false
-
-pub returns : goal.returns
-returns c =
-    let a = c.args in
-    let T = task a.n (mem_of a.m a.x.now a.z.now a.phases.now) a.order.now a.listed.now a.extra.now in
-    let L = claim a.log.now (mem_of a.m a.cx.now a.cz.now a.cphases.now) in
-    let f = c.check_fault-f.ensures in
-    judging T L f.value f.passed c.if-f-ne0.false c.judge.ensures
+    let f = c.check_fault.ensures in
+    let h : c.from_residual.result ≡ Err c.in_err-check_fault.field-0.0 = search rules in
+    record {
+      answer = h ∙ refusing _ _ f.value c.in_err-check_fault.was _;
+      rows = kept _ _ f.value c.in_err-check_fault.was _ _;
+      passed = tells T L f.value f.passed;
+    }

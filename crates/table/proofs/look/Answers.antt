@@ -1,12 +1,7 @@
 -- `table::look` meets its contract. Assumes nothing.
 use mathlib.Core.Path.{◌∙◌}
-use Rattle.table.proofs.Entries.{place-small, place-rule}
+use Rattle.table.proofs.Entries.{place-rule}
 use Rattle.table.proofs.look.Goals as goal
-
-pub entry-requires : goal.entry-requires
-entry-requires c =
-    let a = c.args in
-    (place-small a.lx a.lz a.rx a.rz c.place.result c.place.ensures, c.requires)
 
 pub returns : goal.returns
 returns c =

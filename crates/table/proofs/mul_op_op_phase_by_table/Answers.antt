@@ -7,6 +7,3 @@ use Rattle.table.proofs.mul_op_op_phase_by_table.Goals as goal
 pub look_row-requires : goal.look_row-requires
 unfolding word rule_at all_ruled
 look_row-requires c = (refl, tt)
-
-pub returns : goal.returns
-returns c = c.look_row.ensures

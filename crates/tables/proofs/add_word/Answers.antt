@@ -1,19 +1,10 @@
 -- `tables::add_word` meets its contract. Assumes nothing.
 -- Entry 0 is cleared and the o entries are doubled: with `begun_more` that is one word more.
 use native.Mathlib.Omega.{arith}
-use mathlib.Core.Path.{◌≡◌, ◌∙◌}
+use mathlib.Core.Path.{◌≡◌}
 use Prim.Native.Nat.{◌+◌, ◌*◌, ◌/◌, ◌%◌, ◌<◌}
-use lib.ListN.{length-set}
-use Rattle.tables.proofs.Beginning.{few, begun_more}
+use Rattle.tables.proofs.Beginning.{begun_more}
 use Rattle.tables.proofs.add_word.Goals as goal
-
-pub double-requires : goal.double-requires
-double-requires c =
-    omega (arith, length-set c.args.t.now (c.args.q / 8 * 256) 0, c.requires.3.long, few c.args.q c.requires.1, c.requires.0)
-
-pub shape_of-t : goal.shape_of-t
-shape_of-t c =
-    c.double.ensures.long ∙ length-set c.args.t.now (c.args.q / 8 * 256) 0
 
 pub returns : goal.returns
 returns c =

@@ -1,11 +1,7 @@
--- `tables::make` meets its contract. Assumes nothing.
 -- The loop keeps `Begun (8 g)`: g tables stand whole, and the next begins where they end.
-use Prim.Native.Nat.{◌*◌, ◌-◌, ◌≤◌}
+use Prim.Native.Nat.{◌*◌}
 use Rattle.tables.specs.Workers.{Begun}
 use Rattle.tables.proofs.make.Given as goal
 
 abbrev pub invariant-loop-g : goal.invariant-loop-g
-invariant-loop-g l = (l.g ≤ 8) × Begun (8 * l.g) l.c l.t
-
-abbrev pub decreases-loop-g : goal.decreases-loop-g
-decreases-loop-g l = 8 - l.g
+invariant-loop-g l = Begun (8 * l.g) l.c l.t

@@ -1,8 +1,9 @@
+use mathlib.Core.Path.{refl}
 use Rattle.terms.proofs.Answers.{ends-done, ends-full}
 use Rattle.terms.proofs.reduced.Goals as goal
 
-pub returns-then-s : goal.returns-then-s
-returns-then-s c = let a = c.args in ends-full a.n a.order.now a.listed.now a.extra.now c.columns-s.ensures c.if-s.true
+pub returns-in-Ok : goal.returns-in-Ok
+returns-in-Ok c = let a = c.args in ends-done a.n a.lists.now.order.now a.lists.now.listed.now a.lists.now.extra.now c.in-Ok.ensures refl
 
-pub returns : goal.returns
-returns c = let a = c.args in ends-done a.n a.order.now a.listed.now a.extra.now c.columns-s.ensures c.if-s.false
+pub returns-in-Err : goal.returns-in-Err
+returns-in-Err c = let a = c.args in ends-full a.n a.lists.now.order.now a.lists.now.listed.now a.lists.now.extra.now c.in-Err.ensures refl

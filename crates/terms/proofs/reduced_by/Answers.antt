@@ -6,11 +6,11 @@ use native.Mathlib.Omega.{arith}
 use Prim.Native.Nat.{◌+◌}
 use Rattle.terms.proofs.reduced_by.Goals as goal
 
-pub slice_bounds-reduced-end : goal.slice_bounds-reduced-end
-slice_bounds-reduced-end c = omega (arith, up-long (max_qubits + max_qubits) c.requires.columns_value.0, c.requires.sound.few-qubits)
+pub slice_bounds-lists-end : goal.slice_bounds-lists-end
+slice_bounds-lists-end c = omega (arith, up-long (max_qubits + max_qubits) c.requires.columns_value.0, c.requires.sound.few-qubits)
 
-pub slice_bounds-reduced-end-2 : goal.slice_bounds-reduced-end-2
-slice_bounds-reduced-end-2 c = omega (arith, up-long max_rows c.requires.columns_value.1, c.requires.sound.few-rows)
+pub slice_bounds-lists-end-2 : goal.slice_bounds-lists-end-2
+slice_bounds-lists-end-2 c = omega (arith, up-long max_rows c.requires.columns_value.1, c.requires.sound.few-rows)
 
 pub reduced-requires : goal.reduced-requires
 reduced-requires c = lists-all c.requires.sound c.requires.columns_value.0 c.requires.columns_value.1

@@ -1,23 +1,21 @@
 -- What was read had room in the arrays (`roomy-is`), so that where its lists end is within the units and its words are within the rest.
 -- The run that lies in them is the file's (`verdict-is`), and a refusal is the file's too (`refused-is`).
 use native.Mathlib.Omega.{arith}
-use Rattle.verdict.proofs.Parts.{refused-is, roomy-is, verdict-is, short-enough}
+use Rattle.std.proofs.Common.{rules, ◌≡◌, Err, ◌∙◌}
+use Rattle.verdict.proofs.Parts.{refused-is, roomy-is, verdict-is}
 use Rattle.verdict.proofs.judge.Goals as goal
 
-pub returns-then-k-ne0 : goal.returns-then-k-ne0
-returns-then-k-ne0 c =
-    let l = c.requires.0 in
-    λ s r. refused-is s (short-enough s r l) (r.file l) c.if-k-ne0.true
+pub returns-in_err-f : goal.returns-in_err-f
+returns-in_err-f c =
+    let h : c.from_residual.result ≡ Err c.in_err-f.field-0.0 = search rules in
+    λ s l r. h ∙ refused-is s l r c.in_err-f.was
 
 pub ends_of-e-requires : goal.ends_of-e-requires
-ends_of-e-requires c =
-    let i = c.requires.1 in
-    roomy-is i.input (short-enough i.input i.from c.requires.0) (i.from.file c.requires.0) c.if-k-ne0.false
+ends_of-e-requires c = roomy-is c.requires.input c.requires.short c.requires.read c.in_ok-f.was
 
 pub check_parts-requires : goal.check_parts-requires
 check_parts-requires c =
-    let i = c.requires.1 in
-    let r = roomy-is i.input (short-enough i.input i.from c.requires.0) (i.from.file c.requires.0) c.if-k-ne0.false in
+    let r = roomy-is c.requires.input c.requires.short c.requires.read c.in_ok-f.was in
     let e = c.ends_of-e.ensures in
     record {
       order_le_listed = (omega (arith, e.order, e.listed), omega (arith, e.listed, e.extra), omega (arith, e.extra, e.log), omega (arith, e.log, r.for-units));
@@ -26,6 +24,4 @@ check_parts-requires c =
     }
 
 pub returns : goal.returns
-returns c =
-    let l = c.requires.0 in
-    λ s r. verdict-is s (short-enough s r l) (r.file l) c.if-k-ne0.false c.ends_of-e.ensures c.check_parts.ensures
+returns c = λ s l r. verdict-is s l r c.in_ok-f.was c.ends_of-e.ensures c.check_parts.ensures

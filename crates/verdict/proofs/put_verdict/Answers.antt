@@ -18,7 +18,3 @@ returns-in-NotReduced c = rw c.in-NotReduced.is c.put_plain.ensures
 pub returns-in-Yes : goal.returns-in-Yes
 unfolding text_of
 returns-in-Yes c = rw c.in-Yes.is c.put_plain-in-Yes.ensures
-
-pub returns-in-Refused : goal.returns-in-Refused
-unfolding text_of
-returns-in-Refused c = rw c.in-Refused.is c.put_numbered-in-Refused.ensures

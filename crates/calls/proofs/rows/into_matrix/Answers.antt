@@ -3,4 +3,4 @@ use Rattle.calls.proofs.rows.into_matrix.Goals as goal
 
 pub returns : goal.returns
 returns c =
-    told (matrix-is c.compatibility_matrix-a.ensures) c.matrix.ensures
+    told (matrix-is c.compatibility_matrix-a.ensures) _ _ _ _ c.matrix.ensures

@@ -3,4 +3,4 @@ use Rattle.calls.proofs.rows.on_state.Goals as goal
 
 pub returns : goal.returns
 returns c =
-    told (acted-is c.imul_state-a.ensures) c.acted.ensures
+    told (acted-is c.imul_state-a.ensures) _ _ _ _ c.acted.ensures

@@ -1,15 +1,15 @@
-use Rattle.calls.proofs.Said.{told, said-bad, said-good}
+use Rattle.calls.proofs.Said.{bad_told, good_told}
 use Rattle.forms.specs.Form.{any}
 use Rattle.text.specs.Lines.{field, read}
 use Rattle.calls.specs.Answer.{one'}
 use Rattle.calls.proofs.rows.one.Goals as goal
 
-pub returns-then-not-q-s : goal.returns-then-not-q-s
+pub returns-in_default : goal.returns-in_default
 unfolding one'
-returns-then-not-q-s c =
-    told (said-bad (field (read any)) _ c.number_field-q.ensures.0 c.if-not-q-s.true) c.bad.ensures
+returns-in_default c =
+    bad_told (field (read any)) _ _ _ c.args.s.now c.args.at _ c.number.ensures c.last.ensures c.in_default.is _ _ _ _ c.bad.ensures
 
 pub returns : goal.returns
 unfolding one'
 returns c =
-    told (said-good (field (read any)) _ c.number_field-q.ensures.0 c.if-not-q-s.false) c.asked_one.ensures
+    good_told (field (read any)) _ _ _ c.args.s.now c.args.at _ c.number.ensures c.last.ensures c.in-Some.is _ _ _ _ c.asked_one.ensures

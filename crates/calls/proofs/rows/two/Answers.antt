@@ -1,16 +1,11 @@
 use Rattle.calls.proofs.Kit.{[], ◌∷◌}
-use Rattle.calls.proofs.Said.{told, said-bad, said-good}
+use Rattle.calls.proofs.Said.{bad_told}
 use Rattle.forms.specs.Form.{any}
 use Rattle.text.specs.Lines.{fields}
 use Rattle.calls.specs.Answer.{two}
 use Rattle.calls.proofs.rows.two.Goals as goal
 
-pub returns-then-not-q-s : goal.returns-then-not-q-s
+pub returns-in_default : goal.returns-in_default
 unfolding two
-returns-then-not-q-s c =
-    told (said-bad (fields (any ∷ any ∷ [])) _ c.read_two-q.ensures c.if-not-q-s.true) c.bad.ensures
-
-pub returns : goal.returns
-unfolding two
-returns c =
-    told (said-good (fields (any ∷ any ∷ [])) _ c.read_two-q.ensures c.if-not-q-s.false) c.asked_two.ensures
+returns-in_default c =
+    bad_told (fields (any ∷ any ∷ [])) _ _ _ c.args.s.now c.args.at _ c.read_two.ensures c.last.ensures c.in_default.is _ _ _ _ c.bad.ensures

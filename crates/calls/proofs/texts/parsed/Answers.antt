@@ -4,4 +4,4 @@ use Rattle.calls.proofs.texts.parsed.Goals as goal
 
 pub returns : goal.returns
 returns c =
-    told (read_is c.parse_elem-a.ensures) c.changed.ensures
+    told (read_is c.parse_elem-a.ensures) _ _ _ _ c.changed.ensures

@@ -1,20 +1,22 @@
--- The fields are read to the line's end by the readers' contracts: `said-bad` where one is missing, `said-good` where all are there.
+-- The fields are read to the line's end by the readers' contracts: `bad_told` where one is missing, `said-good` where all are there.
 -- What the call answers and leaves is then the text of the definition.
-use Rattle.calls.proofs.Kit.{◌∙◌, sym, ap, [], ◌∷◌, reads-one, reads_more}
-use Rattle.calls.proofs.Said.{told, said-bad, said-good}
-use Rattle.forms.specs.Answers.{ok_number}
+use Rattle.calls.proofs.Kit.{◌∙◌, ap, sym, [], ◌∷◌}
+use Rattle.calls.proofs.Said.{told, bad_told, said-good}
 use Rattle.text.specs.Lines.{word, fields}
+use Rattle.forms.specs.Answers.{ok_number}
 use Rattle.calls.specs.Answer.{phase1}
 use Rattle.calls.proofs.words.phase1.Goals as goal
 
-pub returns-then-not-a-b : goal.returns-then-not-a-b
+pub returns-in_default : goal.returns-in_default
 unfolding phase1
-returns-then-not-a-b c =
-    let w = reads_more word (word ∷ word ∷ word ∷ []) c.word_field-a.ensures (reads_more word (word ∷ word ∷ []) c.word_field-b.ensures (reads_more word (word ∷ []) c.word_field-c.ensures (reads-one word c.word_field-d.ensures))) in
-    told (said-bad (fields (word ∷ word ∷ word ∷ word ∷ [])) _ w c.if-not-a-b.true) c.bad.ensures
+returns-in_default c =
+    let s = c.args.s.now in
+    let f = fields (word ∷ word ∷ word ∷ word ∷ []) in
+    bad_told f _ _ _ s c.args.at _ c.four.ensures c.last.ensures c.in_default.is _ _ _ _ c.bad.ensures
 
 pub returns : goal.returns
 unfolding phase1
 returns c =
-    let w = reads_more word (word ∷ word ∷ word ∷ []) c.word_field-a.ensures (reads_more word (word ∷ word ∷ []) c.word_field-b.ensures (reads_more word (word ∷ []) c.word_field-c.ensures (reads-one word c.word_field-d.ensures))) in
-    told (said-good (fields (word ∷ word ∷ word ∷ word ∷ [])) _ w c.if-not-a-b.false ∙ ap ok_number (sym c.mul_op_op_phase_u64-e.ensures)) c.ok_number.ensures
+    let s = c.args.s.now in
+    let f = fields (word ∷ word ∷ word ∷ word ∷ []) in
+    told (said-good f _ _ _ s c.args.at _ c.four.ensures c.last.ensures c.in-Some.is ∙ ap ok_number (sym c.mul_op_op_phase_u64-e.ensures)) _ _ _ _ c.ok_number.ensures

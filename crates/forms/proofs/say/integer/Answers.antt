@@ -1,9 +1,6 @@
-use Rattle.forms.proofs.Kit.{adds-both, adds_none, adds-piece, not-false, not-true, whole}
+use Rattle.forms.proofs.Kit.{then_some, whole}
 use mir.Facts.{to_z-of_z}
 use Rattle.forms.proofs.say.integer.Goals as goal
 
-pub returns-then-not-r : goal.returns-then-not-r
-returns-then-not-r c = adds-both c.mark-r.ensures (adds_none _ (not-true _ c.if-not-r.true))
-
 pub returns : goal.returns
-returns c = adds-both c.mark-r.ensures (adds-piece _ (not-false _ c.if-not-r.false) (rw (to_z-of_z c.ranges.v) at (whole c.put_integer.ensures)))
+returns c = then_some _ _ _ _ c.in_ok-at.ensures (rw (to_z-of_z c.ranges.v) at (whole _ _ _ _ _ c.put_integer.ensures))

@@ -1,8 +1,5 @@
-use Rattle.forms.proofs.Kit.{adds-both, adds_none, adds-piece, not-false, not-true, whole}
+use Rattle.forms.proofs.Kit.{then_some, whole}
 use Rattle.forms.proofs.say.number.Goals as goal
 
-pub returns-then-not-r : goal.returns-then-not-r
-returns-then-not-r c = adds-both c.mark-r.ensures (adds_none _ (not-true _ c.if-not-r.true))
-
 pub returns : goal.returns
-returns c = adds-both c.mark-r.ensures (adds-piece _ (not-false _ c.if-not-r.false) (whole c.put_decimal.ensures))
+returns c = then_some _ _ _ _ c.in_ok-at.ensures (whole _ _ _ _ _ c.put_decimal.ensures)

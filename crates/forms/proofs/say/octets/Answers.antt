@@ -1,17 +1,15 @@
-use Rattle.forms.proofs.Kit.{arith, refl}
-use Rattle.forms.proofs.Octets.{begun, onward, all}
+use Rattle.forms.proofs.Kit.{arith}
+use Rattle.forms.proofs.Octets.{begun, onward, stopped, all}
 use Rattle.forms.proofs.say.octets.Goals as goal
 
-pub loop-i-init : goal.loop-i-init
-loop-i-init c = (refl, begun _ _ _ _)
+pub loop-b-init : goal.loop-b-init
+loop-b-init c = begun _ _ _ c.in_ok-end.ensures
 
-pub loop-i-preserved : goal.loop-i-preserved
-loop-i-preserved c =
-    let i = c.loop-i.invariant in
-    (i.0, onward _ _ _ _ i.1 (omega (arith, i.0, c.loop-i-test.true)) (rw c.wide_byte-v.ensures.0 at c.octet-q.ensures))
+pub returns-in_err-end-2 : goal.returns-in_err-end-2
+returns-in_err-end-2 c = rw c.from_residual-in_err-end-2.ensures (stopped _ _ _ c.loop-b.invariant (omega arith) c.in_err-end-2.ensures)
 
-pub shape_of-out : goal.shape_of-out
-shape_of-out c = c.loop-i.invariant.1.adds.same
+pub loop-b-preserved : goal.loop-b-preserved
+loop-b-preserved c = onward _ _ _ c.loop-b.invariant (omega arith) c.in_ok-end-2.ensures
 
 pub returns : goal.returns
-returns c = let i = c.loop-i.invariant in all _ _ _ _ i.1 (omega (arith, i.0, c.loop-i-test.false))
+returns c = all _ _ _ c.loop-b.invariant (omega arith)

@@ -1,11 +1,6 @@
--- What is written so far, and the bytes still to come, are all of them (Octets).
--- Assumes nothing.
-use Rattle.forms.proofs.Kit.{◌-◌, ◌≡◌, length}
+-- So many bytes are written, each in two digits, and those still to come are the rest (Octets).
 use Rattle.forms.proofs.Octets.{Running}
 use Rattle.forms.proofs.say.octets.Given as goal
 
-abbrev pub invariant-loop-i : goal.invariant-loop-i
-invariant-loop-i l = (l.n ≡ length l.xs) × Running l.xs l.initial.out l.initial.q.ok l.initial.q.at l.out l.q.ok l.q.at l.i
-
-abbrev pub decreases-loop-i : goal.decreases-loop-i
-decreases-loop-i l = l.n - l.i
+abbrev pub invariant-loop-b : goal.invariant-loop-b
+invariant-loop-b l = Running l.xs l.fn.out l.at l.out l.end l.b-index

@@ -1,7 +1,7 @@
-use Rattle.forms.proofs.Kit.{adds-both}
+use Rattle.forms.proofs.Kit.{then_some}
 use Rattle.forms.specs.Answers.{ok_acted}
 use Rattle.forms.proofs.say.ok_acted.Goals as goal
 
 pub returns : goal.returns
 unfolding ok_acted
-returns c = adds-both c.letters-r.ensures (adds-both c.number-r.ensures c.words_end.ensures)
+returns c = then_some _ _ _ _ c.in_ok-at.ensures (then_some _ _ _ _ c.in_ok-at-2.ensures c.words_end.ensures)

@@ -1,7 +1,7 @@
-use Rattle.forms.proofs.Kit.{adds-both}
+use Rattle.forms.proofs.Kit.{then_some}
 use Rattle.forms.specs.Answers.{ok_set}
 use Rattle.forms.proofs.say.ok_set.Goals as goal
 
 pub returns : goal.returns
 unfolding ok_set
-returns c = adds-both c.letters-r.ensures c.set_end.ensures
+returns c = then_some _ _ _ _ c.in_ok-at.ensures c.set_end.ensures

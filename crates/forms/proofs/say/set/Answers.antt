@@ -1,5 +1,5 @@
-use Rattle.forms.proofs.Kit.{adds-both}
+use Rattle.forms.proofs.Kit.{then_some}
 use Rattle.forms.proofs.say.set.Goals as goal
 
 pub returns : goal.returns
-returns c = adds-both c.words-r.ensures (adds-both c.words-r-2.ensures c.words.ensures)
+returns c = then_some _ _ _ _ c.in_ok-at.ensures (then_some _ _ _ _ c.in_ok-at-2.ensures c.words-3.ensures)

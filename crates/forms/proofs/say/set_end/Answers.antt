@@ -1,5 +1,5 @@
-use Rattle.forms.proofs.Kit.{adds-both}
+use Rattle.forms.proofs.Kit.{then_some}
 use Rattle.forms.proofs.say.set_end.Goals as goal
 
 pub returns : goal.returns
-returns c = adds-both c.set-r.ensures c.end.ensures
+returns c = then_some _ _ _ _ c.in_ok-at.ensures c.end.ensures

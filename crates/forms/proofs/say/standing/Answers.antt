@@ -1,7 +1,7 @@
-use Rattle.forms.proofs.Kit.{adds-both}
+use Rattle.forms.proofs.Kit.{then_some}
 use Rattle.forms.specs.Answers.{standing}
 use Rattle.forms.proofs.say.standing.Goals as goal
 
 pub returns : goal.returns
 unfolding standing
-returns c = adds-both c.entries-r.ensures c.set_end.ensures
+returns c = then_some _ _ _ _ c.in_ok-at.ensures c.set_end.ensures

@@ -1,9 +1,8 @@
-use Rattle.forms.proofs.Kit.{adds-both, adds-empty}
-use Rattle.forms.proofs.Texts.{no_text, some-text}
+use Rattle.forms.proofs.Kit.{then_some, ◌≡◌, length, rules}
+use Rattle.forms.proofs.Texts.{some-text}
 use Rattle.forms.proofs.say.text_field.Goals as goal
 
-pub returns-then-s-eq0 : goal.returns-then-s-eq0
-returns-then-s-eq0 c = rw (no_text _ c.if-s-eq0.true) adds-empty
-
 pub returns : goal.returns
-returns c = rw (some-text _ c.if-s-eq0.false) (adds-both c.mark-r.ensures c.letters.ensures)
+returns c =
+    let h : length c.args.s.now ≡ 0 → ⊥ = search rules in
+    rw (some-text _ h) (then_some _ _ _ _ c.in_ok-at.ensures c.letters-2.ensures)

@@ -1,7 +1,7 @@
-use Rattle.forms.proofs.Kit.{adds-both}
+use Rattle.forms.proofs.Kit.{then_some}
 use Rattle.forms.specs.Answers.{verdict_plain}
 use Rattle.forms.proofs.say.verdict.Goals as goal
 
 pub returns : goal.returns
 unfolding verdict_plain
-returns c = adds-both c.letters-r.ensures c.set_end.ensures
+returns c = then_some _ _ _ _ c.in_ok-at.ensures c.set_end.ensures

@@ -17,20 +17,5 @@ clear_column-requires c =
       below = (c.requires.below.0, c.requires.below.1);
     }
 
-pub shape_of-owed : goal.shape_of-owed
-shape_of-owed c = c.clear_column.ensures.carries.owed-len
-
-pub shape_of-tx : goal.shape_of-tx
-shape_of-tx c = c.double.ensures.keeps.x_len
-
-pub shape_of-tz : goal.shape_of-tz
-shape_of-tz c = c.double.ensures.keeps.z-len
-
-pub shape_of-tp : goal.shape_of-tp
-shape_of-tp c = c.double.ensures.keeps.e-len
-
-pub shape_of-log : goal.shape_of-log
-shape_of-log c = c.clear_column.ensures.carries.log-len
-
 pub returns : goal.returns
 returns c = freeze-then c.requires.freeze_in c.double.ensures c.clear_column.ensures

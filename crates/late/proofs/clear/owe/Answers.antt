@@ -15,7 +15,7 @@ returns c =
     let a = c.args in
     let m = a.s.entries + a.s.entries in
     record {
-      owed-is = ap (λ (v : ℕ). set a.owed.now a.k (get_or a.owed.now a.k 0 + v)) c.choose_byte.ensures;
-      log_is = ap₂ (λ (u v : ℕ). set (set a.log.now m u) (m + 1) v) c.choose.ensures c.choose-2.ensures;
-      at-is = ap (λ (e : ℕ). record { full = false; entries = e; t = a.s.t; g = a.s.g }) c.choose_place.ensures;
+      owed-is = ap (λ (v : ℕ). set a.owed.now a.k (get_or a.owed.now a.k 0 + v)) c.choose.ensures;
+      log_is = ap₂ (λ (u v : ℕ). set (set a.log.now m u) (m + 1) v) c.choose-2.ensures c.choose-3.ensures;
+      at-is = ap (λ (e : ℕ). record { full = false; entries = e; t = a.s.t; g = a.s.g }) c.choose-4.ensures;
     }

@@ -15,11 +15,11 @@ overflow_mul-v c = omega (arith, c.requires.0.row c.args.k c.requires.1, c.well_
 pub overflow_add-v : goal.overflow_add-v
 overflow_add-v c = omega (arith, c.requires.0.row c.args.k c.requires.1, c.well_formed.0)
 
-pub offset_bounds-b-k : goal.offset_bounds-b-k
-offset_bounds-b-k c = omega (arith, c.requires.0.row c.args.k c.requires.1, c.well_formed.0)
+pub offset_bounds-col-k : goal.offset_bounds-col-k
+offset_bounds-col-k c = omega (arith, c.requires.0.row c.args.k c.requires.1, c.well_formed.0)
 
-pub bounds-b-k : goal.bounds-b-k
-bounds-b-k c = omega (arith, c.requires.0.row c.args.k c.requires.1)
+pub bounds-col-k : goal.bounds-col-k
+bounds-col-k c = omega (arith, c.requires.0.row c.args.k c.requires.1)
 
 pub overflow_mul-v-2 : goal.overflow_mul-v-2
 overflow_mul-v-2 c = omega (arith, c.requires.0.entry c.args.k c.requires.1, c.well_formed.1.1.0)
@@ -27,14 +27,14 @@ overflow_mul-v-2 c = omega (arith, c.requires.0.entry c.args.k c.requires.1, c.w
 pub overflow_add-v-2 : goal.overflow_add-v-2
 overflow_add-v-2 c = omega (arith, c.requires.0.entry c.args.k c.requires.1, c.well_formed.1.1.0)
 
-pub offset_bounds-tb-o : goal.offset_bounds-tb-o
-offset_bounds-tb-o c = omega (arith, c.requires.0.entry c.args.k c.requires.1, c.well_formed.1.1.0)
+pub offset_bounds-col-o : goal.offset_bounds-col-o
+offset_bounds-col-o c = omega (arith, c.requires.0.entry c.args.k c.requires.1, c.well_formed.1.1.0)
 
-pub bounds-tb-o : goal.bounds-tb-o
-bounds-tb-o c = omega (arith, c.requires.0.entry c.args.k c.requires.1)
+pub bounds-col-o : goal.bounds-col-o
+bounds-col-o c = omega (arith, c.requires.0.entry c.args.k c.requires.1)
 
 pub overflow_shr-result : goal.overflow_shr-result
 overflow_shr-result c = omega (arith, c.requires.0.bit)
 
 pub returns : goal.returns
-returns c = let a = c.args in xor-bit (get_or a.b.now (a.k * a.w + a.j) 0) (get_or a.tb.now (get_or a.owed.now a.k 0 * a.w + a.j) 0) a.i
+returns c = let a = c.args in xor-bit (get_or a.col.b.now (a.k * a.col.w + a.col.j) 0) (get_or a.col.tb.now (get_or a.owed.now a.k 0 * a.col.w + a.col.j) 0) a.col.i

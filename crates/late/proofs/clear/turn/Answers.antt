@@ -4,8 +4,8 @@ use native.Mathlib.Omega.{arith}
 use Rattle.late.proofs.Turning.{reads_of, turn-pivot, turn-off, owe-in, turn_owed, stay-does}
 use Rattle.late.proofs.clear.turn.Goals as goal
 
-pub returns-then-k-pivot : goal.returns-then-k-pivot
-returns-then-k-pivot c = turn-pivot c.requires.turn_in c.args.k c.requires.sees.1 c.if-k-pivot.true
+pub returns-then-k-by : goal.returns-then-k-by
+returns-then-k-by c = turn-pivot c.requires.turn_in c.args.k c.requires.sees.1 c.if-k-by.true
 
 pub true_bit-on-requires : goal.true_bit-on-requires
 true_bit-on-requires c =
@@ -13,16 +13,16 @@ true_bit-on-requires c =
 
 pub owe-requires : goal.owe-requires
 owe-requires c =
-    owe-in c.requires.turn_in c.args.k c.requires.sees.1 c.if-k-pivot.false c.requires.sees.0 c.true_bit-on.ensures c.if-e-log.true
+    owe-in c.requires.turn_in c.args.k c.requires.sees.1 c.if-k-by.false c.requires.sees.0 c.true_bit-on.ensures c.if-e-log.true
 
 pub returns-then-e-log : goal.returns-then-e-log
 returns-then-e-log c =
-    turn_owed c.requires.turn_in c.args.k c.requires.sees.1 c.if-k-pivot.false c.requires.sees.0 c.true_bit-on.ensures c.if-e-log.true c.owe.ensures
+    turn_owed c.requires.turn_in c.args.k c.requires.sees.1 c.if-k-by.false c.requires.sees.0 c.true_bit-on.ensures c.if-e-log.true c.owe.ensures
 
 pub returns-then-on : goal.returns-then-on
 returns-then-on c =
-    stay-does c.requires.turn_in c.args.k c.requires.sees.1 c.if-k-pivot.false c.requires.sees.0 c.true_bit-on.ensures c.if-on.true c.if-e-log.false
+    stay-does c.requires.turn_in c.args.k c.requires.sees.1 c.if-k-by.false c.requires.sees.0 c.true_bit-on.ensures c.if-on.true c.if-e-log.false
 
 pub returns : goal.returns
 returns c =
-    turn-off c.requires.turn_in c.args.k c.requires.sees.1 c.if-k-pivot.false c.requires.sees.0 c.true_bit-on.ensures c.if-on.false
+    turn-off c.requires.turn_in c.args.k c.requires.sees.1 c.if-k-by.false c.requires.sees.0 c.true_bit-on.ensures c.if-on.false

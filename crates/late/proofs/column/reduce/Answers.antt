@@ -39,4 +39,4 @@ pub shape_of-log : goal.shape_of-log
 shape_of-log c = c.columns-r.ensures.carries.log-len
 
 pub returns : goal.returns
-returns c = all_done c.requires.start_in c.columns-r.ensures c.pay_all.ensures
+returns c = rw c.progress.ensures (all_done c.requires.start_in c.columns-r.ensures c.pay_all.ensures)

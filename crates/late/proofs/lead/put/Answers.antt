@@ -1,9 +1,8 @@
 -- `late::lead::put` meets its contract: without room nothing is done; else the rows are multiplied, and the entry stands in the two units past the
 -- last one. Assumes nothing.
 use native.Mathlib.Omega.{arith}
-use mathlib.Core.Path.{refl, ap, ◌∙◌}
-use lib.ListN.{length, length-set}
-use Rattle.encoding.proofs.Exponents.{units-with}
+use mathlib.Core.Path.{refl}
+use lib.ListN.{length-set}
 use Rattle.late.specs.Workers.{kept, made}
 use Rattle.late.proofs.View.{rows-by}
 use Rattle.late.proofs.Leading.{by-words}
@@ -17,15 +16,6 @@ mul_rows-requires c = rows-by c.requires.rows c.requires.rows c.words.result c.w
 
 pub bounds-log-k-2 : goal.bounds-log-k-2
 bounds-log-k-2 c = simp length-set (omega arith)
-
-pub shape_of-x : goal.shape_of-x
-shape_of-x c = c.mul_rows.ensures.words.x-rest.long
-
-pub shape_of-z : goal.shape_of-z
-shape_of-z c = c.mul_rows.ensures.words.z-rest.long
-
-pub shape_of-p : goal.shape_of-p
-shape_of-p c = ap length c.mul_rows.ensures.exponents ∙ units-with _ _ _
 
 pub returns : goal.returns
 returns c = made (omega arith) (by-words c.args.n c.words.ensures c.mul_rows.ensures) refl refl

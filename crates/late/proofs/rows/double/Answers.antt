@@ -1,9 +1,6 @@
 -- `late::rows::double` meets its contract: entry o becomes row a, and `fill` makes the entries past it from those below o, which stay.
 -- Assumes nothing.
 use Rattle.late.proofs.View.{double-put, double-next, double-at, double-then}
-use mathlib.Core.Path.{ap, ◌∙◌}
-use lib.ListN.{length}
-use Rattle.encoding.proofs.Exponents.{units-with}
 use Rattle.late.proofs.rows.double.Goals as goal
 
 pub put_row-requires : goal.put_row-requires
@@ -14,15 +11,6 @@ fill-requires c =
     let w = c.words-w in
     let q = c.put_row.ensures in
     record { ready = double-next c.requires w.result w.ensures q; words = w.ensures; at = double-at c.requires w.result w.ensures q }
-
-pub shape_of-tx : goal.shape_of-tx
-shape_of-tx c = c.fill.ensures.keeps.x_len ∙ c.put_row.ensures.x-words.rest.long
-
-pub shape_of-tz : goal.shape_of-tz
-shape_of-tz c = c.fill.ensures.keeps.z-len ∙ c.put_row.ensures.z-words.rest.long
-
-pub shape_of-tp : goal.shape_of-tp
-shape_of-tp c = c.fill.ensures.keeps.e-len ∙ (ap length c.put_row.ensures.exponents ∙ units-with _ _ _)
 
 pub returns : goal.returns
 returns c = let w = c.words-w in double-then c.requires w.result w.ensures c.put_row.ensures c.fill.ensures

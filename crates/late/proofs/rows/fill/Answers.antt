@@ -14,14 +14,5 @@ mul_by-requires c = fill-in c.requires.ready c.args.w c.requires.words c.loop-i.
 pub loop-i-preserved : goal.loop-i-preserved
 loop-i-preserved c = fill_more c.requires.ready c.args.w c.requires.words c.loop-i.invariant c.loop-i-test.true c.mul_by.ensures
 
-pub shape_of-tx : goal.shape_of-tx
-shape_of-tx c = c.loop-i.invariant.keeps.x_len
-
-pub shape_of-tz : goal.shape_of-tz
-shape_of-tz c = c.loop-i.invariant.keeps.z-len
-
-pub shape_of-tp : goal.shape_of-tp
-shape_of-tp c = c.loop-i.invariant.keeps.e-len
-
 pub returns : goal.returns
 returns c = fill_end c.requires.ready c.loop-i.invariant c.loop-i-test.false

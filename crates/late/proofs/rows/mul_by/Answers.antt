@@ -1,10 +1,8 @@
 -- `late::rows::mul_by` meets its contract: the words of all three rows lie inside, the row that is written is the left one or lies past it, and the
 -- exponent follows from those of the two rows and of the product. Assumes nothing.
 use Rattle.late.proofs.View.{small-start, room_by}
-use mathlib.Core.Path.{refl, ap, ◌∙◌}
+use mathlib.Core.Path.{refl}
 use native.Mathlib.Omega.{arith}
-use lib.ListN.{length}
-use Rattle.encoding.proofs.Exponents.{units-with}
 use Rattle.late.proofs.rows.mul_by.Goals as goal
 
 pub overflow_mul-d : goal.overflow_mul-d
@@ -18,15 +16,6 @@ overflow_mul-b c = omega (arith, small-start c.args.b.0 c.args.w (omega (arith, 
 
 pub mul_into-f-requires : goal.mul_into-f-requires
 mul_into-f-requires c = room_by c.requires
-
-pub shape_of-x : goal.shape_of-x
-shape_of-x c = c.mul_into-f.ensures.x-rest.long
-
-pub shape_of-z : goal.shape_of-z
-shape_of-z c = c.mul_into-f.ensures.z-rest.long
-
-pub shape_of-p : goal.shape_of-p
-shape_of-p c = ap length c.add_exponent.ensures ∙ units-with _ _ _
 
 pub returns : goal.returns
 returns c = record { factor = c.mul_into-f.result; words = c.mul_into-f.ensures; many = refl; exponents = c.add_exponent.ensures }

@@ -1,10 +1,7 @@
 -- `late::rows::pay` meets its contract: a row that owes nothing stays; else one product by the entry that it owes is what it stood for, and it owes
 -- nothing then. Assumes nothing.
 use Rattle.late.proofs.View.{pay-in, pay-nothing, pay-product}
-use mathlib.Core.Path.{ap, ◌∙◌}
 use native.Mathlib.Omega.{arith}
-use lib.ListN.{length}
-use Rattle.encoding.proofs.Exponents.{units-with}
 use Rattle.late.proofs.rows.pay.Goals as goal
 
 pub bounds-owed-k : goal.bounds-owed-k
@@ -21,15 +18,6 @@ mul_by-requires c = pay-in c.requires.0 c.args.k c.requires.1 c.words.result c.w
 
 pub bounds-owed-k-2 : goal.bounds-owed-k-2
 bounds-owed-k-2 c = omega (arith, c.requires.0.long, c.requires.1)
-
-pub shape_of-x : goal.shape_of-x
-shape_of-x c = c.mul_by.ensures.words.x-rest.long
-
-pub shape_of-z : goal.shape_of-z
-shape_of-z c = c.mul_by.ensures.words.z-rest.long
-
-pub shape_of-p : goal.shape_of-p
-shape_of-p c = ap length c.mul_by.ensures.exponents ∙ units-with _ _ _
 
 pub returns : goal.returns
 returns c = pay-product c.requires.0 c.args.k c.requires.1 c.words.result c.words.ensures c.if-o-eq0.false c.mul_by.ensures

@@ -10,17 +10,5 @@ pay-requires c = (c.loop-k.invariant.owing, c.loop-k-test.true)
 pub loop-k-preserved : goal.loop-k-preserved
 loop-k-preserved c = paying-more c.requires c.loop-k.invariant c.loop-k-test.true c.pay.ensures
 
-pub shape_of-x : goal.shape_of-x
-shape_of-x c = c.loop-k.invariant.keeps.x_len
-
-pub shape_of-z : goal.shape_of-z
-shape_of-z c = c.loop-k.invariant.keeps.z-len
-
-pub shape_of-p : goal.shape_of-p
-shape_of-p c = c.loop-k.invariant.keeps.e-len
-
-pub shape_of-owed : goal.shape_of-owed
-shape_of-owed c = c.loop-k.invariant.owed-len
-
 pub returns : goal.returns
 returns c = paying-all c.requires c.loop-k.invariant c.loop-k-test.false

@@ -3,11 +3,7 @@
 use Rattle.late.specs.Workers.{table_rows}
 use Rattle.late.proofs.View.{PayingAll}
 use Rattle.encoding.specs.Set.{mem_of}
-use Prim.Native.Nat.{◌-◌}
 use Rattle.late.proofs.rows.pay_all.Given as goal
 
 abbrev pub invariant-loop-k : goal.invariant-loop-k
 invariant-loop-k l = PayingAll l.n (mem_of l.m l.initial.x l.initial.z l.initial.p) l.initial.owed (mem_of table_rows l.tx l.tz l.tp) (mem_of l.m l.x l.z l.p) l.owed l.k
-
-abbrev pub decreases-loop-k : goal.decreases-loop-k
-decreases-loop-k l = l.m - l.k

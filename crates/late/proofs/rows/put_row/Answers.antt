@@ -3,9 +3,7 @@
 use Rattle.late.proofs.View.{small-start, room_by}
 use mathlib.Core.Path.{refl, ap, ◌∙◌}
 use native.Mathlib.Omega.{arith}
-use lib.ListN.{length}
 use Rattle.encoding.specs.Set.{with_exponent}
-use Rattle.encoding.proofs.Exponents.{units-with}
 use Rattle.late.proofs.rows.put_row.Goals as goal
 
 pub overflow_mul-d : goal.overflow_mul-d
@@ -25,15 +23,6 @@ overflow_mul-b-2 c = omega (arith, small-start c.args.b.0 c.args.w (omega (arith
 
 pub copy_words-requires-2 : goal.copy_words-requires-2
 copy_words-requires-2 c = let r = room_by c.requires in (r.d-z, r.t-z)
-
-pub shape_of-x : goal.shape_of-x
-shape_of-x c = c.copy_words.ensures.rest.long
-
-pub shape_of-z : goal.shape_of-z
-shape_of-z c = c.copy_words-2.ensures.rest.long
-
-pub shape_of-p : goal.shape_of-p
-shape_of-p c = ap length c.set_exponent.ensures ∙ units-with _ _ _
 
 pub returns : goal.returns
 returns c =

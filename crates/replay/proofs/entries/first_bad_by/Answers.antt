@@ -1,32 +1,26 @@
--- Entry i is bad, and i is the answer (`bad-here`), or it is passed over (`bad-next`). Entry i is units 2i and 2i + 1, both inside while 2i + 1 is.
-use mathlib.Core.Path.{refl, sym, ◌∙◌}
+-- Entry i is bad, and i is the answer (`bad-here`), or it is passed over (`bad-next`).
+use mathlib.Core.Path.{sym, ◌∙◌}
 use native.Mathlib.Omega.{arith}
 use Rattle.replay.specs.Workers.{good_by}
 use Rattle.replay.proofs.Log.{bad-here, bad-next, bad-end}
 use Rattle.replay.proofs.entries.first_bad_by.Goals as goal
-
-pub loop-i-init : goal.loop-i-init
-loop-i-init c = (omega arith, refl)
-
-pub good_entry-requires : goal.good_entry-requires
-good_entry-requires c = tt
 
 pub returns-then-not-good_entry : goal.returns-then-not-good_entry
 returns-then-not-good_entry c =
     let a = c.args in
     let l = c.loop-i in
     let g = c.good_entry in
-    bad-here (good_by a.marks.now) a.log.now l.i (omega arith) (sym c.if-not-good_entry.true ∙ g.ensures) ∙ l.invariant.1
+    bad-here (good_by a.marks.now) a.log.now l.i (omega arith) (sym c.if-not-good_entry.true ∙ g.ensures) ∙ l.invariant
 
 pub loop-i-preserved : goal.loop-i-preserved
 loop-i-preserved c =
     let a = c.args in
     let l = c.loop-i in
     let g = c.good_entry in
-    (omega arith, bad-next (good_by a.marks.now) a.log.now l.i (omega arith) (sym c.if-not-good_entry.false ∙ g.ensures) ∙ l.invariant.1)
+    bad-next (good_by a.marks.now) a.log.now l.i (omega arith) (sym c.if-not-good_entry.false ∙ g.ensures) ∙ l.invariant
 
 pub returns : goal.returns
 returns c =
     let a = c.args in
     let l = c.loop-i in
-    bad-end (good_by a.marks.now) a.log.now l.i (omega arith) ∙ l.invariant.1
+    bad-end (good_by a.marks.now) a.log.now l.i (omega arith) ∙ l.invariant

@@ -8,7 +8,7 @@ pub returns-then-not-get_bit : goal.returns-then-not-get_bit
 returns-then-not-get_bit c =
     let a = c.args in
     let b = c.get_bit in
-    only-no-bit a.n a.x.now a.z.now a.listed.now a.extra.now a.c a.p (sym c.if-not-get_bit.true ∙ b.ensures)
+    only-no-bit a.n a.x.now a.z.now a.lists.now.listed.now a.lists.now.extra.now a.c a.p (sym c.if-not-get_bit.true ∙ b.ensures)
 
 pub returns-then-not-clean : goal.returns-then-not-clean
 returns-then-not-clean c =
@@ -16,7 +16,7 @@ returns-then-not-clean c =
     let b = c.get_bit in
     let l = c.clean in
     let one = sym c.if-not-get_bit.false ∙ b.ensures in
-    only-no-listed a.n a.x.now a.z.now a.listed.now a.extra.now a.c a.p one (sym c.if-not-clean.true ∙ l.ensures)
+    only-no-listed a.n a.x.now a.z.now a.lists.now.listed.now a.lists.now.extra.now a.c a.p one (sym c.if-not-clean.true ∙ l.ensures)
 
 pub returns : goal.returns
 returns c =
@@ -24,4 +24,4 @@ returns c =
     let b = c.get_bit in
     let l = c.clean in
     let one = sym c.if-not-get_bit.false ∙ b.ensures in
-    only-extra a.n a.x.now a.z.now a.listed.now a.extra.now a.c a.p one (sym c.if-not-clean.false ∙ l.ensures) c.clean-2.ensures
+    only-extra a.n a.x.now a.z.now a.lists.now.listed.now a.lists.now.extra.now a.c a.p one (sym c.if-not-clean.false ∙ l.ensures) c.clean-2.ensures

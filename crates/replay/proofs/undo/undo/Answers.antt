@@ -1,22 +1,19 @@
--- No loop: at a number the rows are as they were (`undo-refusing`); where there is none the lists are as the walk asks (`undo-passed`), and what it leaves
--- is the call's (`undo-walking`).
+-- No loop: at a refusal the rows are as they were (`undo-refusing`); where there is none, what the walk leaves is the call's (`undo-walking`).
+use Rattle.std.proofs.Common.{rules, ◌≡◌, sym, subst}
 use Rattle.encoding.specs.Set.{mem_of}
-use Rattle.replay.proofs.Walking.{undo-passed, undo-refusing, undo-walking}
+use Rattle.replay.specs.Undo.{Undone, Refused, Undoes}
+use Rattle.replay.proofs.Walking.{undo-refusing, undo-walking}
 use Rattle.replay.proofs.undo.undo.Goals as goal
 
-pub returns-then-g-ne0 : goal.returns-then-g-ne0
-returns-then-g-ne0 c =
+pub returns-in_err-undo_fault : goal.returns-in_err-undo_fault
+returns-in_err-undo_fault c =
     let a = c.args in
-    undo-refusing a.n a.listed.now a.extra.now a.log.now (mem_of a.m a.x.now a.z.now a.phases.now) c.reduce_fault-f.ensures.value c.log_fault-g.ensures c.if-g-ne0.true
-
-pub walk_back-requires : goal.walk_back-requires
-walk_back-requires c =
-    let a = c.args in
-    let f = c.reduce_fault-f.ensures in
-    undo-passed a.n a.listed.now a.extra.now a.log.now (mem_of a.m a.x.now a.z.now a.phases.now) f.value c.log_fault-g.ensures f.passed c.if-g-ne0.false
+    let M = mem_of a.m a.x.now a.z.now a.phases.now in
+    let h : c.from_residual.result ≡ Refused c.in_err-undo_fault.field-0.0.0 = search rules in
+    let R : Undone → Type 0 = λ r. Undoes a.n a.lists.now.listed.now a.lists.now.extra.now a.log.now M M r in
+    subst R (sym h) (undo-refusing a.n a.lists.now.listed.now a.lists.now.extra.now a.log.now M c.undo_fault.ensures.value c.in_err-undo_fault.was)
 
 pub returns : goal.returns
 returns c =
     let a = c.args in
-    let w = c.walk_back in
-    undo-walking a.n a.listed.now a.extra.now a.log.now (mem_of a.m a.x.now a.z.now a.phases.now) c.reduce_fault-f.ensures.value c.log_fault-g.ensures c.if-g-ne0.false w.ensures
+    undo-walking a.n a.lists.now.listed.now a.lists.now.extra.now a.log.now (mem_of a.m a.x.now a.z.now a.phases.now) c.undo_fault.ensures.value c.in_ok-undo_fault.was c.walk_back.ensures

@@ -3,15 +3,15 @@ use Rattle.replay.proofs.Judging.{few}
 use Rattle.replay.proofs.Walking.{walk-bad, walk-done}
 use Rattle.replay.proofs.undo.walk_back.Goals as goal
 
-pub first_bad-b-requires : goal.first_bad-b-requires
-first_bad-b-requires c = let p = c.requires in few p.asked p.sound.few-rows
+pub first_bad-requires : goal.first_bad-requires
+first_bad-requires c = let p = c.requires in few p.asked p.sound.few-rows
 
-pub returns-then-b-log : goal.returns-then-b-log
-returns-then-b-log c =
+pub returns-in-Some : goal.returns-in-Some
+returns-in-Some c =
     let a = c.args in
-    walk-bad a.n a.listed.now a.extra.now a.log.now c.requires c.first_bad-b.ensures c.if-b-log.true
+    walk-bad a.n a.lists.now.listed.now a.lists.now.extra.now a.log.now c.requires c.first_bad.ensures c.in-Some.is
 
 pub returns : goal.returns
 returns c =
     let a = c.args in
-    walk-done a.n a.listed.now a.extra.now a.log.now c.requires c.first_bad-b.ensures c.if-b-log.false c.take_back.ensures
+    walk-done a.n a.lists.now.listed.now a.lists.now.extra.now a.log.now c.requires c.first_bad.ensures c.in_default.is c.take_back.ensures

@@ -1,15 +1,6 @@
-use Rattle.row_text.proofs.Kit.{eqb, eqb-true, false≢true, and_left, and_right, get_or, ◌/◌, arith}
+use Rattle.row_text.proofs.Kit.{eqb, eqb-true, and_left, and_right, get_or, ◌/◌, arith}
 use Rattle.row_text.proofs.Putting.{none_from}
 use Rattle.row_text.proofs.fmt.starts_empty.Goals as goal
-
-pub returns-then-q-ne0 : goal.returns-then-q-ne0
-returns-then-q-ne0 c = λ e. absurd (false≢true e)
-
-pub returns-then-j-x : goal.returns-then-j-x
-returns-then-j-x c = λ e. absurd (false≢true e)
-
-pub returns-then-j-z : goal.returns-then-j-z
-returns-then-j-z c = λ e. absurd (false≢true e)
 
 pub returns : goal.returns
 returns c =

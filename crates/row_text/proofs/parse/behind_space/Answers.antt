@@ -8,19 +8,13 @@ returns-then-at-eq0 c =
     let a = c.args in
     (at-start a.s.now ∙ ap (λ (k : ℕ). past (left k a.s.now)) (sym c.if-at-eq0.true), omega arith)
 
-pub overflow_add-result : goal.overflow_add-result
-overflow_add-result c =
-    let a = c.args in
-    let h = space-within a.at a.s.now (sym c.if-starts.true ∙ c.starts.ensures) in
-    record { fits = omega arith }
-
 pub returns-then-starts : goal.returns-then-starts
 returns-then-starts c =
     let a = c.args in
     let e = sym c.if-starts.true ∙ c.starts.ensures in
     (at-space a.at a.s.now c.if-at-eq0.false e, omega (arith, space-within a.at a.s.now e))
 
-pub returns : goal.returns
-returns c =
+pub returns-else-starts : goal.returns-else-starts
+returns-else-starts c =
     let a = c.args in
-    (no-space a.at a.s.now c.if-at-eq0.false (sym c.if-starts.false ∙ c.starts.ensures), omega arith)
+    no-space a.at a.s.now c.if-at-eq0.false (sym c.if-starts.false ∙ c.starts.ensures)

@@ -1,12 +1,8 @@
 use Rattle.row_text.proofs.InRow.{holding-none, parsed-not, parsed}
 use Rattle.row_text.proofs.parse.parse_row.Goals as goal
 
-pub scan-requires : goal.scan-requires
-scan-requires c =
-    record {
-      n_le_max_qubits = c.requires.0;
-      holding = holding-none c.args.n;
-    }
+pub scan-requires-clause-holding : goal.scan-requires-clause-holding
+scan-requires-clause-holding c = holding-none c.args.n
 
 pub returns-then-not-scan : goal.returns-then-not-scan
 returns-then-not-scan c = parsed-not c.scan.ensures c.if-not-scan.true

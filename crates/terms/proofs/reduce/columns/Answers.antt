@@ -9,18 +9,6 @@ by_loops-requires c =
       below = c.requires.below;
     }
 
-pub shape_of-x-then-few : goal.shape_of-x-then-few
-shape_of-x-then-few c = c.by_loops.ensures.keeps.x_len
-
-pub shape_of-z-then-few : goal.shape_of-z-then-few
-shape_of-z-then-few c = c.by_loops.ensures.keeps.z-len
-
-pub shape_of-p-then-few : goal.shape_of-p-then-few
-shape_of-p-then-few c = c.by_loops.ensures.keeps.e-len
-
-pub shape_of-log-then-few : goal.shape_of-log-then-few
-shape_of-log-then-few c = c.by_loops.ensures.log-len
-
 pub returns-then-few : goal.returns-then-few
 returns-then-few c = c.by_loops.ensures
 
@@ -30,18 +18,6 @@ by_table-requires c =
       sound = c.requires.sound;
       below = c.requires.below;
     }
-
-pub shape_of-x : goal.shape_of-x
-shape_of-x c = c.by_table.ensures.keeps.x_len
-
-pub shape_of-z : goal.shape_of-z
-shape_of-z c = c.by_table.ensures.keeps.z-len
-
-pub shape_of-p : goal.shape_of-p
-shape_of-p c = c.by_table.ensures.keeps.e-len
-
-pub shape_of-log : goal.shape_of-log
-shape_of-log c = c.by_table.ensures.log-len
 
 pub returns : goal.returns
 returns c = c.by_table.ensures

@@ -14,4 +14,4 @@ overflow_mul-b c = omega (arith, small-start c.args.b.0 c.args.w (omega (arith, 
 
 pub returns : goal.returns
 returns c =
-    rows-multiplied c.requires c.imul_op_op-f.ensures c.add_exponent.ensures c.args.m refl
+    rows-multiplied c.requires c.imul_op_op-f.ensures c.add_exponent_of.ensures c.args.m refl

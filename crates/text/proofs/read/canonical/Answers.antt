@@ -1,13 +1,11 @@
-use Rattle.text.proofs.Kit.{arith}
-use Rattle.text.proofs.Places.{led-none, not-led}
+use Rattle.text.proofs.Kit.{sym, ◌∙◌}
+use Rattle.text.specs.Numbers.{canonical}
+use Rattle.text.proofs.Places.{not_led}
 use Rattle.text.proofs.read.canonical.Goals as goal
 
-pub returns-then-zero-no_digit : goal.returns-then-zero-no_digit
-returns-then-zero-no_digit c =
-    let n = c.nothing.ensures in
-    (led-none _ _ _ c.past-zero.ensures c.no_digit.ensures c.if-zero-no_digit.true n.0 n.2, omega (arith, n.1))
+pub returns-then-is_led-clause-read : goal.returns-then-is_led-clause-read
+unfolding canonical
+returns-then-is_led-clause-read c = rw (sym c.is_led.ensures ∙ c.if-is_led.true)
 
-pub returns : goal.returns
-returns c =
-    let d = c.decimal.ensures in
-    (not-led _ _ _ c.past-zero.ensures c.no_digit.ensures c.if-zero-no_digit.false d.0, d.1)
+pub returns-clause-read : goal.returns-clause-read
+returns-clause-read c = not_led c.args.most c.args.s.now c.args.at (sym c.is_led.ensures ∙ c.if-is_led.false) _ c.decimal.ensures.read

@@ -1,48 +1,26 @@
--- A turn ends at no digit, at a digit that may not stand there, or takes one; what takes says keeps the number within `most`, so that nothing wraps.
-use Rattle.text.proofs.Kit.{sym, ◌∙◌, arith}
-use Rattle.text.proofs.Reading.{begun, at-end, at_other, refused, taken}
+-- A turn ends at no digit, at a digit that may not stand there, or takes one (Reading).
+use Rattle.text.proofs.Kit.{sym, ◌∙◌}
+use Rattle.text.proofs.Reading.{at-end, at_other, refused, taken}
 use Rattle.text.proofs.read.number.Goals as goal
 
-pub loop-i-init : goal.loop-i-init
-loop-i-init c = begun _ _ _ _ c.requires.2
+pub returns-in_default-clause-read : goal.returns-in_default-clause-read
+returns-in_default-clause-read c =
+    let l = c.loop-i in
+    rw c.ended.ensures (at_other _ _ _ _ l.invariant l.auto.i c.loop-i-test.true c.in_default.ensures)
 
-pub returns-then-d-base : goal.returns-then-d-base
-returns-then-d-base c =
-    let d = c.wide-d in
-    at_other _ _ _ _ c.loop-i.invariant c.loop-i-test.true d.result (d.ensures ∙ c.digit.ensures) c.if-d-base.true c.ended.ensures
-
-pub returns-then-not-takes : goal.returns-then-not-takes
-returns-then-not-takes c =
-    let d = c.wide-d in
-    refused _ _ _ _ c.loop-i.invariant c.loop-i-test.true d.result (d.ensures ∙ c.digit.ensures) c.if-d-base.false
-    (sym c.takes.ensures ∙ c.if-not-takes.true)
-    c.nothing.ensures
-
-pub overflow_mul-v : goal.overflow_mul-v
-overflow_mul-v c =
-    let d = c.wide-d in
-    let onward = taken _ _ _ _ c.loop-i.invariant c.loop-i-test.true d.result (d.ensures ∙ c.digit.ensures) c.if-d-base.false
-    (sym c.takes.ensures ∙ c.if-not-takes.false) in
-    record { fits = omega (arith, onward.0.small) }
-
-pub overflow_add-v : goal.overflow_add-v
-overflow_add-v c =
-    let d = c.wide-d in
-    let onward = taken _ _ _ _ c.loop-i.invariant c.loop-i-test.true d.result (d.ensures ∙ c.digit.ensures) c.if-d-base.false
-    (sym c.takes.ensures ∙ c.if-not-takes.false) in
-    record { fits = omega (arith, onward.0.small) }
-
-pub overflow_sub-left : goal.overflow_sub-left
-overflow_sub-left c =
-    let d = c.wide-d in
-    (taken _ _ _ _ c.loop-i.invariant c.loop-i-test.true d.result (d.ensures ∙ c.digit.ensures) c.if-d-base.false
-    (sym c.takes.ensures ∙ c.if-not-takes.false)).1
+pub returns-then-not-takes-clause-read : goal.returns-then-not-takes-clause-read
+returns-then-not-takes-clause-read c =
+    let l = c.loop-i in
+    let d = c.in-Some.ensures in
+    refused _ _ _ _ l.invariant l.auto.i c.loop-i-test.true d.0 d.1 (rw c.requires.2 at (sym c.takes.ensures ∙ c.if-not-takes.true))
 
 pub loop-i-preserved : goal.loop-i-preserved
 loop-i-preserved c =
-    let d = c.wide-d in
-    (taken _ _ _ _ c.loop-i.invariant c.loop-i-test.true d.result (d.ensures ∙ c.digit.ensures) c.if-d-base.false
-    (sym c.takes.ensures ∙ c.if-not-takes.false)).0
+    let l = c.loop-i in
+    let d = c.in-Some.ensures in
+    taken _ _ _ _ l.invariant l.auto.i c.loop-i-test.true d.0 d.1 (rw c.requires.2 at (sym c.takes.ensures ∙ c.if-not-takes.false))
 
-pub returns : goal.returns
-returns c = at-end _ _ _ _ c.loop-i.invariant c.loop-i-test.false c.ended-2.ensures
+pub returns-clause-read : goal.returns-clause-read
+returns-clause-read c =
+    let l = c.loop-i in
+    rw c.ended-2.ensures (at-end _ _ _ _ l.invariant l.auto.i c.loop-i-test.false l.auto.i-end)

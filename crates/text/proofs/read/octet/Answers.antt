@@ -1,15 +1,28 @@
-use native.Mathlib.Omega.{arith}
-use Rattle.text.proofs.Places.{octet-short, octet-half, octet-there}
+-- A byte that lacks one of its two digits is none. Assumes nothing.
+use Rattle.text.proofs.Kit.{arith}
+use Rattle.text.proofs.Places.{octet-short, no-high, no-low, two_digits}
 use Rattle.text.proofs.read.octet.Goals as goal
+use Rattle.text.proofs.read.octet.Goals.{then-at-s-via-then-at-s, then-at-s-via-else-at-s+then-at-s-2}
 
 pub returns-then-at-s : goal.returns-then-at-s
-returns-then-at-s c = let a = c.args in let f = c.nothing.ensures in (rw (f.0, f.1, f.2) (octet-short a.s.now a.at c.if-at-s.true), omega (arith, f.1))
+returns-then-at-s c =
+    let a = c.args in
+    octet-short a.s.now a.at
+    (elim c.then-at-s.branch [
+      | then-at-s-via-then-at-s w ↦ omega (arith, w.if-at-s.true)
+      | then-at-s-via-else-at-s+then-at-s-2 w ↦ w.if-at-s-2.true
+    ])
 
-pub returns-then-i-s : goal.returns-then-i-s
-returns-then-i-s c = let a = c.args in let f = c.nothing-then-i-s.ensures in (rw (f.0, f.1, f.2) (octet-half a.s.now a.at c.if-at-s.false c.if-i-s.true), omega (arith, f.1))
+pub returns-in_err-high : goal.returns-in_err-high
+returns-in_err-high c = rw c.from_residual.ensures (no-high _ _ c.if-at-s-2.false c.in_err-high.ensures)
+
+pub returns-in_err-low : goal.returns-in_err-low
+returns-in_err-low c =
+    let h = c.in_ok-high.ensures in
+    rw c.from_residual-in_err-low.ensures (no-low _ _ c.if-at-s-2.false h.0 h.1 c.in_err-low.ensures)
 
 pub returns : goal.returns
 returns c =
-    let a = c.args in
-    let f = c.octet_of.ensures in
-    (octet-there a.s.now a.at c.if-at-s.false c.if-i-s.false f.0 f.2, f.1)
+    let h = c.in_ok-high.ensures in
+    let l = c.in_ok-low.ensures in
+    two_digits _ _ c.if-at-s-2.false h.0 h.1 l.0 l.1

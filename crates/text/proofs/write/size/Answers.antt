@@ -1,21 +1,13 @@
-use Rattle.text.proofs.Kit.{refl, arith}
-use Rattle.text.proofs.Writing.{size_small, size_none, size-more}
+use Rattle.text.proofs.Kit.{◌+◌, ◌-◌, arith}
+use Rattle.text.proofs.Writing.{size_small, size-more}
 use Rattle.text.proofs.write.size.Goals as goal
-
-pub loop-turns-init : goal.loop-turns-init
-loop-turns-init c = (refl, omega arith)
 
 pub returns-then-w-base : goal.returns-then-w-base
 returns-then-w-base c =
-    let l = c.loop-turns in
-    (omega (arith, size_small c.args.base l.turns l.w c.if-w-base.true), omega arith)
+    let l = c.loop-n in
+    (omega (arith, l.invariant, size_small c.args.base (21 - l.n) l.w c.if-w-base.true), omega arith)
 
-pub loop-turns-preserved : goal.loop-turns-preserved
-loop-turns-preserved c =
-    let l = c.loop-turns in
-    (omega (arith, size-more c.args.base l.turns l.w c.loop-turns-test.true c.if-w-base.false), omega arith)
-
-pub returns : goal.returns
-returns c =
-    let l = c.loop-turns in
-    (omega (arith, size_none c.args.base l.turns l.w c.loop-turns-test.false), omega arith)
+pub loop-n-preserved : goal.loop-n-preserved
+loop-n-preserved c =
+    let l = c.loop-n in
+    omega (arith, l.invariant, size-more c.args.base (21 - l.n) (21 - (l.n + 1)) l.w (omega arith) c.if-w-base.false)

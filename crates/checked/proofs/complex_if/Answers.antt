@@ -1,4 +1,0 @@
-use Rattle.checked.proofs.complex_if.Goals as goal
-
-pub returns-else-f : goal.returns-else-f
-returns-else-f c = rw c.if-f.false

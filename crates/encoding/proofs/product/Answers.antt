@@ -1,6 +1,0 @@
-use native.Mathlib.Omega.{arith}
-use native.Mathlib.Nat.{mul-le-mul}
-use Rattle.encoding.proofs.product.Goals as goal
-
-pub overflow_mul-result : goal.overflow_mul-result
-overflow_mul-result c = omega (arith, mul-le-mul c.requires.0 c.requires.1)
