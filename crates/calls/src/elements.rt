@@ -14,7 +14,7 @@ pub(crate) struct Terms {
     pub(crate) fim: [f64; TERMS],
 }
 
-// Of whole numbers, and below of floats: the two differ in the type of number and in every function that they call, seven in all.
+// Of whole numbers, and below of floats: the two differ in the type of number and in three of the six functions that they call.
 pub(crate) fn whole(
     s: &[u8],
     at: usize,
