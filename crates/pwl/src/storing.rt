@@ -123,7 +123,8 @@ pub(crate) fn put_run(
     out: &mut [u8],
 ) -> usize
     requires n_bound { (f.n ≤ 65535) × (f.m ≤ 65535)
-        × (f ≡ front_for (run f.n f.m lists.now.order.now lists.now.listed.now lists.now.extra.now x.now z.now p.now log.now cx.now cz.now cp.now)) }
+        × (f ≡ front_for
+        (run f.n f.m lists.now.order.now lists.now.listed.now lists.now.extra.now x.now z.now p.now log.now cx.now cz.now cp.now)) }
     requires cp_in_bounds { length (image
         (run f.n f.m lists.now.order.now lists.now.listed.now lists.now.extra.now x.now z.now p.now log.now cx.now cz.now cp.now))
         ≤ length out.old }
