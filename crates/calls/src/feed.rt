@@ -24,7 +24,8 @@ fn give_up(rt: &HostRuntime, why: &[u8]) -> Option<Feed> {
     None
 }
 
-// The place of the first line end from a place on.
+// The place of the first line end from a place on. Inlined into the loop over lines, it takes eight instructions a byte for five.
+#[inline(never)]
 fn line_end(buf: &[u8], from: usize, end: usize) -> Option<usize> {
     let n = buf.get(from..end)?.iter().position(|c| *c == b'\n')?;
     Some(from + n)
@@ -41,9 +42,12 @@ fn flushed(rt: &HostRuntime, out: &[u8], f: Feed) -> Option<Feed> {
 
 // ---- more bytes
 
-// The bytes from a place on move to the front; how many they are.
+// The bytes from a place on move to the front; how many they are. While a long line comes in they stand there at every read.
 fn shift(buf: &mut [u8], start: usize, end: usize) -> usize {
     let end = end.min(buf.len());
+    if start == 0 {
+        return end;
+    }
     if end <= start {
         return 0;
     }
