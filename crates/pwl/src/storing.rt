@@ -16,15 +16,15 @@ fn low(v: u64) -> u8
     (v % 256) as u8
 }
 
-// The k bytes of v at a place.
+// The k bytes of v at a place. The loop counts from 0, so that it is unrolled where k is known.
 #[tactic(auto, using(crate::proofs::Stores::byte_next, crate::proofs::Stores::byte_end))]
 fn put(v: u64, k: usize, at: usize, out: &mut [u8])
     requires { at + k ≤ length out.old }
     ensures { out.new ≡ over (le k v) at out.old }
 {
     let mut r = v;
-    for p in at..at + k {
-        out[p] = low(r);
+    for j in 0..k {
+        out[at + j] = low(r);
         r /= 256;
     }
 }

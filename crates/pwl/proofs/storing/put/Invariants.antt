@@ -6,5 +6,5 @@ use Rattle.text.specs.Readers.{over}
 use Rattle.pwl.specs.Bytes.{le}
 use Rattle.pwl.proofs.storing.put.Given as goal
 
-abbrev pub invariant-loop-p : goal.invariant-loop-p
-invariant-loop-p l = over (le (l.at + l.k - l.p) l.r) l.p l.out ≡ over (le l.k l.v) l.at l.initial.out
+abbrev pub invariant-loop-j : goal.invariant-loop-j
+invariant-loop-j l = over (le (l.k - l.j) l.r) (l.at + l.j) l.out ≡ over (le l.k l.v) l.at l.initial.out
