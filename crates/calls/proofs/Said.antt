@@ -1,6 +1,6 @@
 -- The answer to a line by what its readers found: a bad line where a field is not there or more stands behind the last one, else what is said to the
--- fields. Both follow from where the last field ends (`ends`).
-use Rattle.forms.proofs.Reading.{ends}
+-- fields. Both follow from where the last field ends (`line-end`).
+use Rattle.forms.proofs.Reading.{valued, found_reads, ended, line-end}
 use Rattle.calls.proofs.Kit.{◌≡◌, refl, sym, ap, ◌∙◌, subst, Bool, true, false, cond, List, [], ◌∷◌, ℕ, zero, suc, length, drop, eqb, Got, none, got, answer}
 use Rattle.std.specs.Prelude.{Option, Some, None, MatchOption, Result}
 use Rattle.text.specs.Readers.{mapped}
@@ -32,13 +32,16 @@ Closes read value s at None = last (read (drop at s)) ≡ none
 Closes read value s at (Some q) = last (read (drop at s)) ≡ got (value q) []
 
 module _ {A R : Type 0} (read : List ℕ → Got A) (value : R → A) (Fits : R → Type 0) (s : List ℕ) (at : ℕ) where
-  by-end : (b : Bool) (q : R) → last (read (drop at s)) ≡ answer b (value q) [] → Closes read value s at (cond b (Some q) None)
+  by-end : (b : Bool) (q : R) → last (read (drop at s)) ≡ ended (cond b (Some (value q)) None) → Closes read value s at (cond b (Some q) None)
   by-end true q e = e
   by-end false q e = e
 
+  by-found : (o : Option (R × ℕ)) → last (read (drop at s)) ≡ ended (closed_at (length s) (valued value o)) → Closes read value s at (closed_at (length s) o)
+  by-found None e = e
+  by-found (Some f) e = by-end (eqb f.1 (length s)) f.0 e
+
   closes : (o : Option (R × ℕ)) → Finds read value Fits s at o → Closes read value s at (closed_at (length s) o)
-  closes None a = ap last a
-  closes (Some f) a = by-end (eqb f.1 (length s)) f.0 (ap last a.is ∙ ends s f.1 (value f.0) a.within)
+  closes o a = by-found o (line-end read s at (valued value o) (found_reads read value Fits s at o a))
 
   fits : (o : Option (R × ℕ)) → Finds read value Fits s at o → (q : R) → closed_at (length s) o ≡ Some q → Fits q
   fits None a q e = absurd (none-some q e)

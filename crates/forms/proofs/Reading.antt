@@ -1,14 +1,27 @@
 -- Fields read one after the other: a reader behind another reads the fields of both, and a line ends where its last field ends.
 -- By cases on what each reader answers. Assumes nothing.
-use Rattle.forms.proofs.Kit.{◌≡◌, refl, ap, ◌∙◌, Bool, true, false, List, [], ◌∷◌, ◌++◌, ℕ, ◌<◌, ◌≤◌, arith, length, drop}
+use Rattle.forms.proofs.Kit.{◌≡◌, refl, ap, ◌∙◌, subst, Bool, true, false, List, [], ◌∷◌, ◌++◌, ℕ, ◌<◌, ◌≤◌, arith, length, drop}
 use borrow.Author.Tests.{eqb-true, eqb-false}
 use lib.Dec.{eqb}
 use lib.ListN.{drop_of_length-le}
 use lib.Seq.{drop-cons}
 use Rattle.std.specs.Prelude.{Option, None, Some, cond}
-use Rattle.forms.specs.Fields.{closed_at}
+use Rattle.std.proofs.lemmas.Option.{none-some}
+use Rattle.forms.specs.Fields.{Finds, closed_at}
 use Rattle.text.specs.Readers.{Got, none, got, answer, Reads, mapped}
 use Rattle.text.specs.Lines.{Kind, Value, Values, read, field, joined_by, further, fields, last}
+
+-- ---- what the readers of fields promise
+
+-- what was found, by the value that it stands for
+abbrev pub valued : {A R : Type 0} → (R → A) → Option (R × ℕ) → Option (A × ℕ)
+valued value None = None
+valued value (Some f) = Some (value f.0, f.1)
+
+-- so the laws below, of what is read, hold of what these readers find
+pub found_reads : {A R : Type 0} (read : List ℕ → Got A) (value : R → A) (Fits : R → Type 0) (s : List ℕ) (at : ℕ) (o : Option (R × ℕ)) → Finds read value Fits s at o → Reads read s at (valued value o)
+found_reads read value Fits s at None a = a
+found_reads read value Fits s at (Some f) a = record { is = a.is; within = a.within }
 
 -- ---- fields
 
@@ -55,6 +68,22 @@ module _ (ks js : List Kind) where
   reads_both s at (Some f) (Some g) a b =
       let c = b f refl in
       record { is = fields-append ks js (drop at s) ∙ (ap (onto ks js) a.is ∙ ap (mapped (glue ks js f.0)) c.is); within = c.within }
+
+some-same : {A : Type 0} (v w : A) → Some v ≡ Some w → v ≡ w
+some-same {A} v w e = ap the e
+  where
+    the : Option A → A
+    the None = v
+    the (Some x) = x
+
+-- the same of two readers of fields, one behind the other
+module _ (ks js : List Kind) {P Q : Type 0} (u : P → Values ks) (v : Q → Values js) (Fits : P → Type 0) (Suits : Q → Type 0) where
+  pub found_both : (s : List ℕ) (at : ℕ) (p : Option (P × ℕ)) (q : Option (Q × ℕ)) → Finds (fields ks) u Fits s at p
+      → ((f : P × ℕ) → p ≡ Some f → Finds (fields js) v Suits s f.1 q) → Reads (fields (ks ++ js)) s at (glued ks js (valued u p) (valued v q))
+  found_both s at None q a b = reads_both ks js s at None (valued v q) (found_reads (fields ks) u Fits s at None a) (λ g e. absurd (none-some g e))
+  found_both s at (Some f) q a b =
+      reads_both ks js s at (valued u (Some f)) (valued v q) (found_reads (fields ks) u Fits s at (Some f) a)
+      (λ g e. subst (λ (k : Values ks × ℕ). Reads (fields js) s k.1 (valued v q)) (some-same (u f.0, f.1) g e) (found_reads (fields js) v Suits s f.1 q (b f refl)))
 
 -- ---- the line's end
 
