@@ -179,6 +179,13 @@ pub fn set_exponent(p: &mut [u64], r: RowNumber, e: ComplexSign)
     }
 }
 
+// The number where the test passes, else the rest of the table.
+pub fn pick(test: bool, number: u8, rest: u8) -> u8
+    ensures { result ≡ cond test number rest }
+{
+    if test { number } else { rest }
+}
+
 // Of two parts of a call the smaller number.
 pub fn smaller(a: Result<(), Refusal>, b: Result<(), Refusal>) -> Result<(), Refusal>
     ensures { result ≡ smaller a b }
