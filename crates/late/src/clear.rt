@@ -72,7 +72,8 @@ fn true_bit(col: Column, owed: &[u8], k: usize) -> bool
     (v >> col.i) % 2 == 1
 }
 
-// The first place of the list, from t on, of a row with the column set.
+// The first place of the list, from t on, of a row with the column set. It is not inlined, for the same reason as `clear_both`.
+#[inline(never)]
 pub(crate) fn find(col: Column, owed: &[u8], listed: &[u16], t: usize) -> Option<usize>
     requires { Reads col.w col.j col.i col.b.now owed.now col.tb.now × Below (length owed.now) listed.now }
     ensures { result ≡ place_from (seen_bit col.entry.w col.entry.j col.entry.i col.entry.b.now owed.now col.entry.tb.now) t listed.now }
@@ -196,7 +197,8 @@ fn clear(
     Ok(r)
 }
 
-// The listed and then the extra rows are cleared.
+// The listed and then the extra rows are cleared. Inlined into the loop over the columns, it leaves that loop's search short of registers.
+#[inline(never)]
 fn clear_both(
     n: usize,
     m: usize,
